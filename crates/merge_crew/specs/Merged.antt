@@ -17,18 +17,22 @@ NamesEach plan crew = (s c : ℕ) → s < stripe_count → c < length plan
     → occurrences c (stripe_names crew.stripes.stripes s) ≡ 1
 
 -- every chunk's piece is in each stripe, by a given number of workers or by the caller: there was one pass for each
--- worker. The passes merged `merged` pieces, and the caller settled the others of the sixteen of each chunk, no more
--- than the workers left busy or found there already. The passes found a stripe held or changed at least 64 times for
--- each piece left busy, and no piece is left busy by a worker that is alone
+-- worker, and each drew a number past the last chunk, but for one at most. The passes drew as many numbers of chunks as
+-- there are, and offered the sixteen pieces of each: they merged `merged` pieces, found `present` in their stripes, and
+-- left `busy_left`. The caller settled the pieces that they did not merge. The passes found a stripe held or changed at
+-- least 64 times for each piece left busy, and no piece is left busy by a worker that is alone
 pub record IsWhole (plan : Chunks) (workers : ℕ) (crew : Crew) : Type 0 where
   pub names : NamesEach plan crew
+  pub drawn : crew.stripes.view.got ≡ length plan
+  pub counted : crew.merged + crew.busy_left + crew.present ≡ stripe_count * crew.stripes.view.got
   pub merged : crew.merged ≡ length crew.stripes.view.puts
   pub sum : crew.merged + crew.settled ≡ stripe_count * length plan
   pub busy : 64 * crew.busy_left ≤ crew.stripes.view.busy
   pub present : crew.present ≡ crew.stripes.view.met
-  pub settled : crew.settled ≤ crew.busy_left + crew.present
+  pub settled : crew.settled ≡ crew.busy_left + crew.present
   pub alone : workers ≡ 1 → crew.busy_left ≡ 0
   pub passes : crew.stripes.view.splits + 1 ≡ workers
+  pub past : 0 < length plan → workers ≤ crew.stripes.view.over + 1
 
 -- stripes of an expanded plan that no worker filled
 pub record IsUnfilled (chunks : Chunks) (crew : Crew) : Type 0 where

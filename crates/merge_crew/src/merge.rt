@@ -41,14 +41,20 @@ pub fn merge_all<R: Threads + Sync, E: Expand + Sync, G: Gate>(
     requires fits { FitsExpansion plan.now (E.call_path expand.now) }
     ensures plan { IfOk result (IsOfPlan (expanded plan.now (E.call_path expand.now))) }
     ensures whole { IfOk result (NamesEach (expanded plan.now (E.call_path expand.now))) }
+    ensures drawn { IfOk result (λ crew. crew.stripes.view.got
+        ≡ length (expanded plan.now (E.call_path expand.now))) }
+    ensures counted { IfOk result (λ crew. crew.merged + crew.busy_left + crew.present
+        ≡ stripe_count * crew.stripes.view.got) }
     ensures merged { IfOk result (λ crew. crew.merged ≡ length crew.stripes.view.puts) }
     ensures sum { IfOk result (λ crew. crew.merged + crew.settled
         ≡ stripe_count * length (expanded plan.now (E.call_path expand.now))) }
     ensures busy { IfOk result (λ crew. 64 * crew.busy_left ≤ crew.stripes.view.busy) }
     ensures present { IfOk result (λ crew. crew.present ≡ crew.stripes.view.met) }
-    ensures settled { IfOk result (λ crew. crew.settled ≤ crew.busy_left + crew.present) }
+    ensures settled { IfOk result (λ crew. crew.settled ≡ crew.busy_left + crew.present) }
     ensures alone { IfOk result (λ crew. workers ≡ 1 → crew.busy_left ≡ 0) }
     ensures passes { IfOk result (λ crew. crew.stripes.view.splits + 1 ≡ workers) }
+    ensures past { IfOk result (λ crew. 0 < length (expanded plan.now (E.call_path expand.now))
+        → workers ≤ crew.stripes.view.over + 1) }
 {
     let (stripes, first) = Stripes::start(alloc, plan, expand)?;
     let all = run(rt, alloc, &stripes, first, workers, plan, expand, gate)?;

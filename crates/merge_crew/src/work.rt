@@ -264,10 +264,11 @@ fn claim_all<E: Expand, G: Gate>(
     requires counts { Counts stripes.now (length queue.old.items) worker.old }
     requires waits { Waits stripes.now.plan queue.old.items worker.old.pass.view worker.old.busy_left }
     requires plan { stripes.now.plan ≡ expanded plan.now (E.call_path expand.now) }
-    requires none { worker.old.pass.view.got ≡ 0 }
+    requires none { (worker.old.pass.view.got ≡ 0) × (worker.old.pass.view.over ≡ 0) }
     ensures counts { Counts stripes.now (length queue.new.items) worker.new }
     ensures waits { Waits stripes.now.plan queue.new.items worker.new.pass.view worker.new.busy_left }
     ensures few { worker.new.pass.view.got < 2 ^ 32 }
+    ensures past { worker.new.pass.view.over ≤ 1 }
     ensures drew { DrewAll stripes.now worker.new }
     ensures keeps { KeepsPasses worker.old worker.new }
 {
@@ -303,7 +304,7 @@ pub(crate) fn work<E: Expand, G: Gate>(
 )
     requires counts { Counts stripes.now 0 worker.old }
     requires plan { stripes.now.plan ≡ expanded plan.now (E.call_path expand.now) }
-    requires none { worker.old.pass.view.got ≡ 0 }
+    requires none { (worker.old.pass.view.got ≡ 0) × (worker.old.pass.view.over ≡ 0) }
     ensures ended { HasEnded stripes.now worker.new }
     ensures keeps { KeepsPasses worker.old worker.new }
 {

@@ -6,7 +6,7 @@ ghost use Rattle.scope_types.specs.Limits.{most_workers};
 ghost use Rattle.stripe_table.specs.Values.{IsPassOf};
 ghost use Rattle.stripe_table.specs.Views.{first_view};
 ghost use Rattle.thread_cct.specs.Plan.{expanded};
-ghost use Rattle.merge_crew.specs.private.Counts.{HasEnded, IsFirstWorker, IsIdle, KeepsPasses};
+ghost use Rattle.merge_crew.specs.private.Counts.{HasEnded, IsFirstWorker, IsIdle, KeepsPasses, TeamDrew};
 ghost use Rattle.merge_crew.specs.private.Workers.{LastIsFirst, Made, idle_worker, split_view};
 
 use crate::work::{Worker, work};
@@ -111,6 +111,7 @@ fn work_all<R: Threads + Sync, E: Expand + Sync, G: Gate>(
     requires last { LastIsFirst (length all.items - 1) all.items }
     requires plan { stripes.now.plan ≡ expanded plan.now (E.call_path expand.now) }
     ensures first { IsFirstWorker stripes.now result.0 }
+    ensures drew { TeamDrew stripes.now result.0 }
     ensures splits { (result.0.pass.view.splits ≡ length result.1.items) × (result.0.pass.view.joins ≡ 0) }
     ensures others { All (HasEnded stripes.now) result.1.items }
     ensures count { length result.1.items + 1 ≡ length all.items }
@@ -125,7 +126,9 @@ fn take_in(stripes: &Stripes, first: &mut Worker, other: Worker)
     requires first { IsFirstWorker stripes.now first.old }
     requires few { first.old.pass.view.joins < most_workers }
     requires other { HasEnded stripes.now other }
+    requires drew { TeamDrew stripes.now first.old }
     ensures first { IsFirstWorker stripes.now first.new }
+    ensures drew { TeamDrew stripes.now first.new }
     ensures splits { first.new.pass.view.splits ≡ first.old.pass.view.splits }
     ensures joins { first.new.pass.view.joins ≡ first.old.pass.view.joins + 1 }
 {
@@ -152,7 +155,9 @@ fn take_in_all(stripes: &Stripes, first: &mut Worker, mut others: Vec<Worker>)
     requires joins { first.old.pass.view.joins ≡ 0 }
     requires few { length others.items < most_workers }
     requires others { All (HasEnded stripes.now) others.items }
+    requires drew { TeamDrew stripes.now first.old }
     ensures first { IsFirstWorker stripes.now first.new }
+    ensures drew { TeamDrew stripes.now first.new }
     ensures splits { first.new.pass.view.splits ≡ first.old.pass.view.splits }
     ensures joins { first.new.pass.view.joins ≡ length others.items }
 {
@@ -177,6 +182,7 @@ pub(crate) fn run<R: Threads + Sync, E: Expand + Sync, G: Gate>(
     requires workers { (1 ≤ workers) × (workers ≤ most_workers) }
     requires plan { stripes.now.plan ≡ expanded plan.now (E.call_path expand.now) }
     ensures first { IfOk result (IsFirstWorker stripes.now) }
+    ensures drew { IfOk result (TeamDrew stripes.now) }
     ensures splits { IfOk result (λ w. w.pass.view.splits + 1 ≡ workers) }
     ensures joins { IfOk result (λ w. w.pass.view.joins ≡ w.pass.view.splits) }
 {

@@ -16,7 +16,7 @@ use Rattle.stripe_table.specs.declared.view.Last.TheVariants.{Saw}
 use Rattle.stripe_table.specs.declared.stripe.Stripe.{Stripe}
 use Rattle.stripe_table.specs.Views.{spent_view, after_draw, after_look, after_busy, after_take, after_put, after_put_back, after_present, after_split, after_join, fresh_view}
 use Rattle.stripe_table.specs.private.Plays as rule
-use Rattle.stripe_table.specs.Fits.{Fits}
+use Rattle.stripe_table.specs.Fits.{Fits, IsLonger, IsUnchanged}
 use Rattle.stripe_table.specs.private.Kept.{Ruled}
 use Rattle.stripe_table.specs.private.Plays.{carried}
 use Rattle.stripe_table.specs.Machine.{MergeState, with_view, with_stripe, Step, claim, look, take, miss, puts, puts_back, meets, split, join, Reached, goes}
@@ -49,12 +49,12 @@ module _ (p : Chunks) where
   pub take_allowed : (slots id t e : ℕ) (me : M) → me.0.live ≡ true → me.0.hold ≡ Free → me.0.last ≡ Saw t e → e % 2 ≡ 0 → t < 16
       → Allows (Reached p) slots id me (t + 1) (λ n. either (eqb n e) (e + 1) n) (rule.takes (step slots (t + 1) e (e + 1) none) me)
   take_allowed slots id t e me alive free saw even lt s r _ at small = let x : ℕ = get_or s.words (t + 1) 0 in let v = me.0 in let k = core p s r in dite (ℕ_discrete x e)
-      (λ hit. let w : PassView = after_take t e v in let y = at_home p s.words s.homes s.views t e k lt hit even in let plan = (k.seats id v at).knows alive in (
+      (λ hit. let y = at_home p s.words s.homes s.views t e k lt hit even in let w : PassView = after_take t e y.0 v in let plan = (k.seats id v at).knows alive in (
         w,
         act.takes t y.0,
         y.1,
         subst (λ (b : Bool). Reached p (stepped s (t + 1) (either b (e + 1) x) id me.1 w (act.takes t y.0))) (sym (eq-eqb x e hit)) (goes s _ r (take id v t e y.0 (at, alive) free saw even lt hit y.1 refl)),
-        λ a q. let i : t ≡ a = omega arith in subst (λ (z : ℕ). (x ≡ e → (y' : Stripe) × Fits v.plan z (e / 2) y' × Same (w, (t, y.0) ∷ me.1) (after_take z e v, (z, y') ∷ me.1)) × (x ≢ e → Same (w, (t, y.0) ∷ me.1) (after_busy z e x v, me.1))) i
+        λ a q. let i : t ≡ a = omega arith in subst (λ (z : ℕ). (x ≡ e → (y' : Stripe) × Fits v.plan z (e / 2) y' × Same (w, (t, y.0) ∷ me.1) (after_take z e y' v, (z, y') ∷ me.1)) × (x ≢ e → Same (w, (t, y.0) ∷ me.1) (after_busy z e x v, me.1))) i
             ((λ _. (y.0, subst (λ (z : Chunks). Fits z t (e / 2) y.0) (sym plan) y.2, refl)), λ ne. absurd (ne hit)),
       ))
       (λ ne. let w : PassView = after_busy t e x v in (
@@ -69,33 +69,33 @@ module _ (p : Chunks) where
   home : (s : MergeState) (t n id : ℕ) (me : M) (x : Stripe) (w : PassView) → me.1 ≡ (t, x) ∷ [] → Step s (with_stripe s id w t n (some x)) → Reached p s → Reached p (stepped s (t + 1) n id me.1 w gives)
   home s t n id me x w here st r = subst (λ (cs : List (ℕ × Stripe)). let z : MergeState = record { words = set s.words (t + 1) n; homes = act.put_back s.homes cs; views = set s.views id w } in Reached p z) (sym here) (goes s _ r st)
 
-  pub put_allowed : (slots id t k : ℕ) (me : M) (x : Stripe) → me.0.live ≡ true → me.0.hold ≡ Holds t k → me.1 ≡ (t, x) ∷ [] → Fits me.0.plan t (k + 1) x
+  pub put_allowed : (slots id t k : ℕ) (me : M) (x : Stripe) → me.0.live ≡ true → me.0.hold ≡ Holds t k → me.1 ≡ (t, x) ∷ [] → Fits me.0.plan t (k + 1) x → IsLonger me.0.plan t (get_or x.names k 0) me.0.taken x
       → Allows (Reached p) slots id me (t + 1) (λ _. 2 * k + 2) (λ _. rule.puts (step slots (t + 1) (2 * k + 2) 0 none) me (2 * k + 2))
-  put_allowed slots id t k me x alive has here fits s r _ at small = let v = me.0 in let w : PassView = after_put t k (get_or x.names k 0) v in (
+  put_allowed slots id t k me x alive has here fits longer s r _ at small = let v = me.0 in let w : PassView = after_put t k (get_or x.names k 0) v in (
     w,
     gives,
     tt,
-    home s t (2 * k + 2) id me x w here (puts id v t k x (at, alive) has fits refl) r,
+    home s t (2 * k + 2) id me x w here (puts id v t k x (at, alive) has fits longer refl) r,
     λ a n e. let i : t ≡ a = cc in let j : k ≡ n = cc in let q : act.rest me.1 ≡ [] = ap act.rest here in λ z. let y : M = (after_put (i z) (j z) (get_or (carried (sym here z)).names (j z) 0) v, q z) in y,
   )
 
-  pub back_allowed : (slots id t k : ℕ) (me : M) (x : Stripe) → me.0.live ≡ true → me.0.hold ≡ Holds t k → me.1 ≡ (t, x) ∷ [] → Fits me.0.plan t k x
+  pub back_allowed : (slots id t k : ℕ) (me : M) (x : Stripe) → me.0.live ≡ true → me.0.hold ≡ Holds t k → me.1 ≡ (t, x) ∷ [] → Fits me.0.plan t k x → IsUnchanged me.0.taken x
       → Allows (Reached p) slots id me (t + 1) (λ _. 2 * k) (λ _. rule.puts_back (step slots (t + 1) (2 * k) 0 none) me (2 * k))
-  back_allowed slots id t k me x alive has here fits s r _ at small = let v = me.0 in let w : PassView = after_put_back v in (
+  back_allowed slots id t k me x alive has here fits same s r _ at small = let v = me.0 in let w : PassView = after_put_back v in (
     w,
     gives,
     tt,
-    home s t (2 * k) id me x w here (puts_back id v t k x (at, alive) has fits refl) r,
+    home s t (2 * k) id me x w here (puts_back id v t k x (at, alive) has fits same refl) r,
     let q : act.rest me.1 ≡ [] = ap act.rest here in λ z. let y : M = (w, q z) in y,
   )
 
-  pub meet_allowed : (slots id t k : ℕ) (me : M) (x : Stripe) → me.0.live ≡ true → me.0.hold ≡ Holds t k → me.1 ≡ (t, x) ∷ [] → Fits me.0.plan t k x → x.index < k
+  pub meet_allowed : (slots id t k : ℕ) (me : M) (x : Stripe) → me.0.live ≡ true → me.0.hold ≡ Holds t k → me.1 ≡ (t, x) ∷ [] → Fits me.0.plan t k x → IsUnchanged me.0.taken x → x.index < k
       → Allows (Reached p) slots id me (t + 1) (λ _. 2 * k) (λ _. rule.meets (step slots (t + 1) (2 * k) 0 none) me (2 * k))
-  meet_allowed slots id t k me x alive has here fits there s r _ at small = let v = me.0 in let w : PassView = after_present t x.index (get_or x.names x.index 0) v in (
+  meet_allowed slots id t k me x alive has here fits same there s r _ at small = let v = me.0 in let w : PassView = after_present t x.index (get_or x.names x.index 0) v in (
     w,
     gives,
     tt,
-    home s t (2 * k) id me x w here (meets id v t k x.index x (at, alive) has fits there refl) r,
+    home s t (2 * k) id me x w here (meets id v t k x.index x (at, alive) has fits same there refl) r,
     λ a n e. let i : t ≡ a = cc in let q : act.rest me.1 ≡ [] = ap act.rest here in λ z. let y : M = (after_present (i z) (carried (sym here z)).index (get_or (carried (sym here z)).names (carried (sym here z)).index 0) v, q z) in y,
   )
 

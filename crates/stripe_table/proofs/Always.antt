@@ -9,7 +9,7 @@ use Rattle.stripe_table.specs.declared.view.PassView.{PassView}
 use Rattle.stripe_table.specs.declared.view.Hold.{Hold}
 use Rattle.stripe_table.specs.declared.view.Hold.TheVariants.{Free, Holds}
 use Rattle.stripe_table.specs.Views.{total, weight, got, over, splits, joins, first, holds_stripe, held_once}
-use Rattle.stripe_table.specs.Laws.{Always, DrawsCounted, AllDrawn, OddIsHeld, EvenIsFree, FewPieces, PutsCounted, HomeFits, OneFirst, SpentIsBlank, SamePlan, OwePieces, AloneIsNeverBusy}
+use Rattle.stripe_table.specs.Laws.{Always, DrawsCounted, AllDrawn, DrawsInOrder, OddIsHeld, EvenIsFree, FewPieces, PutsCounted, HomeFits, TakenFits, OneFirst, SpentIsBlank, SamePlan, OwePieces, AloneIsNeverBusy}
 use Rattle.stripe_table.proofs.Sums.{total_has, total_one}
 use Rattle.stripe_table.proofs.Keeps.{holder, at_home, not_first, first_lives}
 use Rattle.stripe_table.proofs.Reaching.{core}
@@ -32,6 +32,9 @@ draws p s r = let k = core p s r in let a = min-le_left (get_or s.words 0 0) (le
 
 pub all_drawn : Always AllDrawn
 all_drawn p s r j v at some_over = let k = core p s r in let a = total_has over s.views j v at in k.past (omega arith)
+
+pub in_order : Always DrawsInOrder
+in_order p s r = (core p s r).exact
 
 pub odd_held : Always OddIsHeld
 odd_held p s r t k lt = let kept = core p s r in let o = kept.stripes t lt in (
@@ -60,6 +63,9 @@ puts_counted p s r t lt = let o = (core p s r).stripes t lt in let w = o.word_is
 
 pub home_fits : Always HomeFits
 home_fits p s r t lt even = at_home p s.words s.homes s.views t _ (core p s r) lt refl even
+
+pub taken_fits : Always TakenFits
+taken_fits p s r j t k v at has = ((core p s r).seats j v at).had t k has
 
 pub one_first : Always OneFirst
 one_first p s r = let k = core p s r in let vs = s.views in let ones = k.ones in let f = total_some first vs (omega arith) in let j = f.0 in let v = f.1 in let at = f.2 in let is = is_one v.first f.3 in

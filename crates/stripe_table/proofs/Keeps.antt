@@ -2,7 +2,7 @@
 use Rattle.std.proofs.Common.{◌≡◌, ◌≢◌, ℕ, ◌+◌, ◌*◌, ◌/◌, ◌%◌, ◌^◌, ◌<◌, ◌≤◌, ◌⊎◌, ◌==◌, Bool, true, false, cond, List, [], ◌∷◌, ◌++◌, length, get_or, set, sym, refl, ap, ◌∙◌, subst, arith, inl, inr, ⊎_elim, length-set, get_or-set_same, get_or-set_other, lt-ltb, le-ltb, le-leb, true≢false, eq-eqb, ne_eqb}
 use Rattle.std.proofs.lemmas.Bool.{lt-leb}
 use mathlib.Core.Logic.{dite}
-use mathlib.Core.Option.{none, some}
+use mathlib.Core.Option.{none, some, some-injective}
 use mathlib.Core.Option as maybe
 use native.Mathlib.Decide.{ℕ_discrete, dec_lt}
 use lib.ListN.{get_elem?}
@@ -15,6 +15,7 @@ use Rattle.stripe_table.specs.declared.view.Hold.TheVariants.{Free, Holds}
 use Rattle.stripe_table.specs.declared.view.Last.{Last}
 use Rattle.stripe_table.specs.declared.view.Last.TheVariants.{Nothing, Saw, Found, Named}
 use Rattle.stripe_table.specs.declared.stripe.Stripe.{Stripe}
+use Rattle.stripe_table.specs.Stripe.{empty_stripe}
 use Rattle.stripe_table.specs.Views.{total, weight, occurrences, owes, times_piece, chunk_pieces, without, held_once, got, over, splits, joins, first, live, done, holds_stripe, after_draw, after_look, after_busy, after_take, after_put}
 use Rattle.stripe_table.specs.Fits.{Fits}
 use Rattle.stripe_table.specs.private.Kept.{StripeOk, SeatOk, Alone, Kept}
@@ -78,6 +79,7 @@ module _ (p : Chunks) where
         gone = o.gone;
         owing = o.owing;
         placed = o.placed;
+        had = o.had;
       }) (at_set vs id j w u e)
 
   -- another seat than the first is not first
@@ -109,6 +111,15 @@ module _ (p : Chunks) where
       (λ h. let g = k.0 h in let f = k.2 h in let b = a (omega arith) in omega arith)
       (λ ne. let le : length v.plan ≤ x = omega arith in let g = (k.1 le).0 in ⊎_elim (λ (a : x ≤ total got vs). let z : length p ≤ total got (set vs id (after_draw x v)) = omega arith in z) (λ (b : length p ≤ total got vs). let z : length p ≤ total got (set vs id (after_draw x v)) = omega arith in z) d)
 
+  exact_next : (x : ℕ) (v : PassView) (vs : List PassView) (id : ℕ) → v.plan ≡ p → get_elem? vs id ≡ some v
+      → (total got vs + total over vs < 2 ^ 64 → (x ≡ total got vs + total over vs) × (total got vs ≤ length p))
+      → total got (set vs id (after_draw x v)) + total over (set vs id (after_draw x v)) < 2 ^ 64
+      → ((x + 1) % 2 ^ 64 ≡ total got (set vs id (after_draw x v)) + total over (set vs id (after_draw x v))) × (total got (set vs id (after_draw x v)) ≤ length p)
+  exact_next x v vs id plan at a few = let n : length v.plan ≡ length p = ap length plan in let t = total_set got vs id v (after_draw x v) at in let o = total_set over vs id v (after_draw x v) at in let k = got_next x v in
+      dite (dec_lt x (length v.plan))
+      (λ h. let g = k.0 h in let f = k.2 h in let b = a (omega arith) in let is = b.0 in let le = b.1 in (omega arith, omega arith))
+      (λ ne. let past : length v.plan ≤ x = omega arith in let g = (k.1 past).0 in let f = (k.1 past).1 in let b = a (omega arith) in let is = b.0 in let le = b.1 in (omega arith, omega arith))
+
   drew_owes : (x : ℕ) (v : PassView) → ((c s : ℕ) → 0 < owes c s v → (c < length p) × (s < 16)) → v.plan ≡ p → (c s : ℕ) → 0 < owes c s (after_draw x v) → (c < length p) × (s < 16)
   drew_owes x v old plan c s h = dite (dec_lt x (length v.plan))
       (λ lt. let a : owes c s (after_draw x v) ≡ owes c s v + times_piece c s (chunk_pieces x 16) = ap (λ (b : Bool). times_piece c s (v.owed ++ cond b (chunk_pieces x 16) [])) (lt-ltb x (length v.plan) lt) ∙ piece_append c s v.owed (chunk_pieces x 16) in
@@ -125,11 +136,12 @@ module _ (p : Chunks) where
         deep = kept.deep;
         drawn = subst (λ (z : ℕ). (z ≤ total got (set vs id w)) ⊎ (length p ≤ total got (set vs id w))) (sym word) (drawn_next x v vs id plan at d);
         past = past_next x v vs id plan at d a;
+        exact = subst (λ (z : ℕ). total got (set vs id w) + total over (set vs id w) < 2 ^ 64 → (z ≡ total got (set vs id w) + total over (set vs id w)) × (total got (set vs id w) ≤ length p)) (sym word) (exact_next x v vs id plan at kept.exact);
         ones = total_same first vs id v w at refl ∙ kept.ones;
         lives = let b = kept.lives in let b1 = total_same live vs id v w at refl in let b2 = total_same joins vs id v w at refl in let b3 = total_same splits vs id v w at refl in omega arith;
         stripes = other_stripes ws ws' hs hs vs id v w 16 kept at (λ t ne. (refl, refl, apart t, refl)) (λ h. absurd (omega arith));
         seats = others_seated vs id w (λ t. total (done t) vs) (λ t. total (done t) (set vs id w)) kept.seats
-            (record { knows = o.knows; quiet = o.quiet; held = λ t k h. ((o.held t k h).0, (o.held t k h).1 ∙ sym (total_same (done t) vs id v w at refl)); gone = λ e. absurd (true≢false (sym alive ∙ e)); owing = drew_owes x v (λ c s h. o.owing c s h) plan; placed = o.placed })
+            (record { knows = o.knows; quiet = o.quiet; held = λ t k h. ((o.held t k h).0, (o.held t k h).1 ∙ sym (total_same (done t) vs id v w at refl)); gone = λ e. absurd (true≢false (sym alive ∙ e)); owing = drew_owes x v (λ c s h. o.owing c s h) plan; placed = o.placed; had = o.had })
             (λ j u n e t k h. sym (total_same (done t) vs id v w at refl));
         alone = others_alone ws ws' hs vs kept id v w at alive (λ f z. (((kept.alone id v at) f z).0, λ t e l. absurd (cc)));
       }
@@ -142,11 +154,12 @@ module _ (p : Chunks) where
     deep = kept.deep;
     drawn = subst (λ (z : ℕ). (get_or ws 0 0 ≤ z) ⊎ (length p ≤ z)) (sym (total_same got vs id v w at refl)) kept.drawn;
     past = let a = kept.past in let g = total_same got vs id v w at refl in let h = total_same over vs id v w at refl in λ z. let y = a (omega arith) in omega arith;
+    exact = let a = kept.exact in let g = total_same got vs id v w at refl in let h = total_same over vs id v w at refl in λ z. let b = a (omega arith) in let is = b.0 in let le = b.1 in (omega arith, omega arith);
     ones = total_same first vs id v w at refl ∙ kept.ones;
     lives = let b = kept.lives in let b1 = total_same live vs id v w at refl in let b2 = total_same joins vs id v w at refl in let b3 = total_same splits vs id v w at refl in omega arith;
     stripes = other_stripes ws ws hs hs vs id v w 16 kept at (λ t ne. (refl, refl, refl, refl)) (λ h. absurd (omega arith));
     seats = others_seated vs id w (λ t. total (done t) vs) (λ t. total (done t) (set vs id w)) kept.seats
-        (record { knows = o.knows; quiet = o.quiet; held = λ t k h. ((o.held t k h).0, (o.held t k h).1 ∙ sym (total_same (done t) vs id v w at refl)); gone = λ e. absurd (true≢false (sym alive ∙ e)); owing = o.owing; placed = o.placed })
+        (record { knows = o.knows; quiet = o.quiet; held = λ t k h. ((o.held t k h).0, (o.held t k h).1 ∙ sym (total_same (done t) vs id v w at refl)); gone = λ e. absurd (true≢false (sym alive ∙ e)); owing = o.owing; placed = o.placed; had = o.had })
         (λ j u n e t k h. sym (total_same (done t) vs id v w at refl));
     alone = others_alone ws ws hs vs kept id v w at alive mine;
   }
@@ -175,25 +188,27 @@ module _ (p : Chunks) where
 
   -- a step at stripe s that changes its word, its home, and what the pass has after_put and holds
   module _ (ws : List ℕ) (hs : Homes) (vs : List PassView) (id : ℕ) (v : PassView) (kept : Kept p ws hs vs) (at : get_elem? vs id ≡ some v) (alive : v.live ≡ true) (s : ℕ) (lt : s < 16) where
-    moves : (n : ℕ) (hs' : Homes) (xs : List ℕ) (os : List (ℕ × ℕ)) (h : Hold) (b : ℕ) (l : Last) → ((c t : ℕ) → times_piece c t os ≤ owes c t v) → length hs' ≡ length hs → ((t : ℕ) → t ≢ s → get_elem? hs' t ≡ get_elem? hs t)
+    moves : (n : ℕ) (hs' : Homes) (xs : List ℕ) (os : List (ℕ × ℕ)) (h : Hold) (own : Stripe) (b : ℕ) (l : Last) → ((c t : ℕ) → times_piece c t os ≤ owes c t v) → length hs' ≡ length hs → ((t : ℕ) → t ≢ s → get_elem? hs' t ≡ get_elem? hs t)
         → ((t : ℕ) → t ≢ s → (occurrences t xs ≡ occurrences t v.puts) × (held_once t h ≡ holds_stripe t v))
-        → StripeOk p s n (get_elem? hs' s) (total (done s) (set vs id (record v { puts = xs; owed = os; hold = h; met = b; last = l }))) (total (holds_stripe s) (set vs id (record v { puts = xs; owed = os; hold = h; met = b; last = l })))
-        → ((t k : ℕ) → h ≡ Holds t k → (t < 16) × (k ≡ total (done t) (set vs id (record v { puts = xs; owed = os; hold = h; met = b; last = l }))))
-        → ((j : ℕ) (u : PassView) → j ≢ id → get_elem? vs j ≡ some u → (t k : ℕ) → u.hold ≡ Holds t k → total (done t) vs ≡ total (done t) (set vs id (record v { puts = xs; owed = os; hold = h; met = b; last = l })))
+        → StripeOk p s n (get_elem? hs' s) (total (done s) (set vs id (record v { puts = xs; owed = os; hold = h; taken = own; met = b; last = l }))) (total (holds_stripe s) (set vs id (record v { puts = xs; owed = os; hold = h; taken = own; met = b; last = l })))
+        → ((t k : ℕ) → h ≡ Holds t k → (t < 16) × (k ≡ total (done t) (set vs id (record v { puts = xs; owed = os; hold = h; taken = own; met = b; last = l }))))
+        → ((t k : ℕ) → h ≡ Holds t k → Fits p t k own)
+        → ((j : ℕ) (u : PassView) → j ≢ id → get_elem? vs j ≡ some u → (t k : ℕ) → u.hold ≡ Holds t k → total (done t) vs ≡ total (done t) (set vs id (record v { puts = xs; owed = os; hold = h; taken = own; met = b; last = l })))
         → ((t e : ℕ) → l ≢ Saw t e)
-        → Kept p (set ws (s + 1) n) hs' (set vs id (record v { puts = xs; owed = os; hold = h; met = b; last = l }))
-    moves n hs' xs os h b l fewer deep apart other here mine rest unseen = let w : PassView = record v { puts = xs; owed = os; hold = h; met = b; last = l } in let o = kept.seats id v at in let ws' : List ℕ = set ws (s + 1) n in
+        → Kept p (set ws (s + 1) n) hs' (set vs id (record v { puts = xs; owed = os; hold = h; taken = own; met = b; last = l }))
+    moves n hs' xs os h own b l fewer deep apart other here mine had rest unseen = let w : PassView = record v { puts = xs; owed = os; hold = h; taken = own; met = b; last = l } in let o = kept.seats id v at in let ws' : List ℕ = set ws (s + 1) n in
         let word : get_or ws' (s + 1) 0 ≡ n = get_or-set_same ws (s + 1) n 0 (let z = kept.wide in omega arith) in record {
           wide = length-set ws (s + 1) n ∙ kept.wide;
           deep = deep ∙ kept.deep;
           drawn = subst (λ (z : ℕ × ℕ). (z.0 ≤ z.1) ⊎ (length p ≤ z.1)) (λ i. (sym (get_or-set_other ws (s + 1) 0 n 0 (λ e. omega arith)) i, sym (total_same got vs id v w at refl) i)) kept.drawn;
           past = let a = kept.past in let g = total_same got vs id v w at refl in let h = total_same over vs id v w at refl in λ z. let y = a (omega arith) in omega arith;
+          exact = let a = kept.exact in let g = total_same got vs id v w at refl in let f = total_same over vs id v w at refl in let first_word = get_or-set_other ws (s + 1) 0 n 0 (λ e. omega arith) in λ z. let c = a (omega arith) in let is = c.0 in let le = c.1 in (omega arith, omega arith);
           ones = total_same first vs id v w at refl ∙ kept.ones;
           lives = let b = kept.lives in let b1 = total_same live vs id v w at refl in let b2 = total_same joins vs id v w at refl in let b3 = total_same splits vs id v w at refl in omega arith;
           stripes = other_stripes ws ws' hs hs' vs id v w s kept at (λ t ne. let z = other t ne in (z.0, z.1, get_or-set_other ws (s + 1) (t + 1) n 0 (λ e. ne (omega arith)), apart t ne))
               (λ _. subst (λ (z : ℕ). StripeOk p s z (get_elem? hs' s) (total (done s) (set vs id w)) (total (holds_stripe s) (set vs id w))) (sym word) here);
           seats = others_seated vs id w (λ t. total (done t) vs) (λ t. total (done t) (set vs id w)) kept.seats
-              (record { knows = o.knows; quiet = o.quiet; held = mine; gone = λ e. absurd (true≢false (sym alive ∙ e)); owing = λ c t h. o.owing c t (let z = fewer c t in omega arith); placed = λ t h. dite (ℕ_discrete t s) (λ e. subst (λ (z : ℕ). z < 16) (sym e) lt) (λ ne. let z = (other t ne).0 in o.placed t (omega arith)) }) rest;
+              (record { knows = o.knows; quiet = o.quiet; held = mine; gone = λ e. absurd (true≢false (sym alive ∙ e)); owing = λ c t h. o.owing c t (let z = fewer c t in omega arith); placed = λ t h. dite (ℕ_discrete t s) (λ e. subst (λ (z : ℕ). z < 16) (sym e) lt) (λ ne. let z = (other t ne).0 in o.placed t (omega arith)); had = had }) rest;
           alone = others_alone ws ws' hs vs kept id v w at alive (λ f z. (((kept.alone id v at) f z).0, λ t e q. absurd (unseen t e q)));
         }
 
@@ -205,15 +220,17 @@ module _ (p : Chunks) where
   at_home ws hs vs t e kept lt is even = let o = kept.stripes t lt in let c = half (total (done t) vs) (total (holds_stripe t) vs) e (sym is ∙ o.word_is) o.one even in let y = o.at_home c.0 in
       (y.0, y.1, subst (λ (z : ℕ). Fits p t z y.0) c.1 y.2)
 
-  pub taken_from : (ws : List ℕ) (hs : Homes) (vs : List PassView) (id t e : ℕ) (v : PassView) → Kept p ws hs vs → get_elem? vs id ≡ some v → v.live ≡ true → v.hold ≡ Free → e % 2 ≡ 0 → t < 16 → get_or ws (t + 1) 0 ≡ e
-      → Kept p (set ws (t + 1) (e + 1)) (set hs t none) (set vs id (after_take t e v))
-  taken_from ws hs vs id t e v kept at alive free even lt hit = let o = kept.stripes t lt in let w : PassView = after_take t e v in let c = half (total (done t) vs) (total (holds_stripe t) vs) e (sym hit ∙ o.word_is) o.one even in
+  pub taken_from : (ws : List ℕ) (hs : Homes) (vs : List PassView) (id t e : ℕ) (v : PassView) → Kept p ws hs vs → get_elem? vs id ≡ some v → v.live ≡ true → v.hold ≡ Free → e % 2 ≡ 0 → t < 16 → get_or ws (t + 1) 0 ≡ e → (x : Stripe) → get_elem? hs t ≡ some (some x)
+      → Kept p (set ws (t + 1) (e + 1)) (set hs t none) (set vs id (after_take t e x v))
+  taken_from ws hs vs id t e v kept at alive free even lt hit x home = let o = kept.stripes t lt in let w : PassView = after_take t e x v in let y = at_home ws hs vs t e kept lt hit even in
+      let same : y.0 ≡ x = some-injective y.0 x (some-injective (some y.0) (some x) (sym y.1 ∙ home)) in let fits : Fits p t (e / 2) x = subst (Fits p t (e / 2)) same y.2 in let c = half (total (done t) vs) (total (holds_stripe t) vs) e (sym hit ∙ o.word_is) o.one even in
       let none_held : holds_stripe t v ≡ 0 = ap (held_once t) free in let me_held = weight_self t in let wi = o.word_is in
       let d : total (done t) (set vs id w) ≡ total (done t) vs = total_same (done t) vs id v w at refl in let h = total_set (holds_stripe t) vs id v w at in
-      moves ws hs vs id v kept at alive t lt (e + 1) (set hs t none) v.puts v.owed (Holds t (e / 2)) v.met Nothing (λ c a. omega arith) (length-set hs t none) (λ a ne. set_else hs t a none ne)
+      moves ws hs vs id v kept at alive t lt (e + 1) (set hs t none) v.puts v.owed (Holds t (e / 2)) x v.met Nothing (λ c a. omega arith) (length-set hs t none) (λ a ne. set_else hs t a none ne)
       (λ a ne. (refl, weight_else a t ne ∙ sym (ap (held_once a) free)))
       (record { word_is = omega arith; one = omega arith; few = let z = o.few in omega arith; at_home = λ z. absurd (omega arith) })
       (λ a k q. let i : t ≡ a = cc in let j : e / 2 ≡ k = cc in (subst (λ (z : ℕ). z < 16) i lt, sym j ∙ (sym c.1 ∙ (sym d ∙ ap (λ (z : ℕ). total (done z) (set vs id w)) i))))
+      (λ a k q. let i : t ≡ a = cc in let j : e / 2 ≡ k = cc in subst (λ (z : ℕ × ℕ). Fits p z.0 z.1 x) (λ m. (i m, j m)) fits)
       (λ j u n q a k r. sym (total_same (done a) vs id v w at refl))
       (λ a b q. cc)
 
@@ -238,13 +255,14 @@ module _ (p : Chunks) where
 
   -- the stripe s goes home as x, and the pass has after_put xs
   module _ (ws : List ℕ) (hs : Homes) (vs : List PassView) (id : ℕ) (v : PassView) (kept : Kept p ws hs vs) (at : get_elem? vs id ≡ some v) (alive : v.live ≡ true) (s k : ℕ) (has : v.hold ≡ Holds s k) where
-    pub homeward : (x : Stripe) (os : List (ℕ × ℕ)) (b : ℕ) (l : Last) → ((c t : ℕ) → times_piece c t os ≤ owes c t v) → ((t e : ℕ) → l ≢ Saw t e) → Fits p s k x → Kept p (set ws (s + 1) (2 * k)) (set hs s (some x)) (set vs id (record v { owed = os; hold = Free; met = b; last = l }))
-    homeward x os b l fewer unseen fits = let w : PassView = record v { owed = os; hold = Free; met = b; last = l } in let q = holder ws hs vs id v kept at s k has in let o = kept.stripes s q.0 in
+    pub homeward : (x : Stripe) (os : List (ℕ × ℕ)) (b : ℕ) (l : Last) → ((c t : ℕ) → times_piece c t os ≤ owes c t v) → ((t e : ℕ) → l ≢ Saw t e) → Fits p s k x → Kept p (set ws (s + 1) (2 * k)) (set hs s (some x)) (set vs id (record v { owed = os; hold = Free; taken = empty_stripe; met = b; last = l }))
+    homeward x os b l fewer unseen fits = let w : PassView = record v { owed = os; hold = Free; taken = empty_stripe; met = b; last = l } in let q = holder ws hs vs id v kept at s k has in let o = kept.stripes s q.0 in
         let d : total (done s) (set vs id w) ≡ total (done s) vs = total_same (done s) vs id v w at refl in let h = total_set (holds_stripe s) vs id v w at in let few = o.few in
         let is = q.1 in let one = q.2 in let all = q.3 in
-        moves ws hs vs id v kept at alive s q.0 (2 * k) (set hs s (some x)) v.puts os Free b l fewer (length-set hs s (some x)) (λ t ne. set_else hs s t (some x) ne)
+        moves ws hs vs id v kept at alive s q.0 (2 * k) (set hs s (some x)) v.puts os Free empty_stripe b l fewer (length-set hs s (some x)) (λ t ne. set_else hs s t (some x) ne)
         (λ t ne. (refl, sym (ap (held_once t) has ∙ weight_else t s ne)))
         (record { word_is = omega arith; one = omega arith; few = omega arith; at_home = λ _. (x, set_here hs s (some x) (let z = kept.deep in let y = q.0 in omega arith), subst (λ (z : ℕ). Fits p s z x) (is ∙ sym d) fits) })
+        (λ t r e. absurd (cc))
         (λ t r e. absurd (cc))
         (λ j u n e t r g. sym (total_same (done t) vs id v w at refl))
         unseen
@@ -254,9 +272,10 @@ module _ (p : Chunks) where
         let d = total_set (done s) vs id v w at in let more : done s w ≡ done s v + 1 = times_snoc s v.puts s ∙ ap (λ (z : ℕ). done s v + z) (weight_self s) in let h = total_set (holds_stripe s) vs id v w at in let few = fits_few s (k + 1) x fits in
         let is = q.1 in let one = q.2 in let all = q.3 in
         let kept_else : (t : ℕ) → t ≢ s → done t w ≡ done t v = λ t ne. let a = times_snoc t v.puts s in let b = weight_else t s ne in omega arith in
-        moves ws hs vs id v kept at alive s q.0 (2 * k + 2) (set hs s (some x)) (v.puts ++ s ∷ []) (without c s v.owed) Free v.met (Named s k c) (λ d t. piece_without d t c s v.owed) (length-set hs s (some x)) (λ t ne. set_else hs s t (some x) ne)
+        moves ws hs vs id v kept at alive s q.0 (2 * k + 2) (set hs s (some x)) (v.puts ++ s ∷ []) (without c s v.owed) Free empty_stripe v.met (Named s k c) (λ d t. piece_without d t c s v.owed) (length-set hs s (some x)) (λ t ne. set_else hs s t (some x) ne)
         (λ t ne. (kept_else t ne, sym (ap (held_once t) has ∙ weight_else t s ne)))
         (record { word_is = omega arith; one = omega arith; few = omega arith; at_home = λ _. (x, set_here hs s (some x) (let z = kept.deep in let y = q.0 in omega arith), subst (λ (z : ℕ). Fits p s z x) (omega arith) fits) })
+        (λ t r e. absurd (cc))
         (λ t r e. absurd (cc))
         (λ j u n e t r g. dite (ℕ_discrete t s) (λ z. absurd (q.4 j u n e r (g ∙ ap (λ (y : ℕ). Holds y r) z))) (λ ne. sym (total_same (done t) vs id v w at (kept_else t ne))))
         (λ t e z. cc)

@@ -16,7 +16,7 @@ use Rattle.stripe_table.specs.private.Adding.{HasRoom, TakesIn, pointing_at}
 use Rattle.stripe_table.specs.declared.view.PassView.{PassView}
 use Rattle.stripe_table.specs.declared.view.Hold.TheVariants.{Holds}
 use Rattle.stripe_table.specs.Views.{weight, occurrences}
-use Rattle.stripe_table.specs.Fits.{Fits}
+use Rattle.stripe_table.specs.Fits.{Fits, IsLonger, IsUnchanged}
 use Rattle.stripe_table.specs.private.Seats.{SitsOn, IsSame}
 use Rattle.stripe_table.proofs.Sums.{times_snoc, sum_by_snoc, list_any_snoc, flat_map_snoc, few_below, sum_over_below, up_to_le, up_to_list}
 
@@ -88,3 +88,14 @@ last_name x y c k is at = (λ i. get_or (is i) (at i) 0) ∙ at_end x.names c
     at_end : (l : List ℕ) (c : ℕ) → get_or (l ++ c ∷ []) (length l) 0 ≡ c
     at_end [] c = refl
     at_end (y ∷ ys) c = at_end ys c
+
+-- what is put back follows from what was taken
+pub is_longer : (p : Chunks) (q : Piece) (x y taken : Stripe) (k : ℕ) → x ≡ taken → IsPieceOf p q → TakesIn x q y → k ≡ length x.names → IsLonger p q.stripe (get_or y.names k 0) taken y
+is_longer p q x y taken k is of t at = let last : get_or y.names k 0 ≡ q.chunk = last_name x y q.chunk k t.names at in subst (λ (z : ℕ × Stripe). IsLonger p q.stripe z.0 z.1 y) (λ i. (sym last i, is i))
+    (t.names, t.merged ∙ ap (λ (es : List Entry). x.trie ++ es) (entries_are p q of))
+
+pub is_pointing : (a : ℕ) (x y taken : Stripe) → x ≡ taken → y ≡ pointing_at a x → IsUnchanged taken y
+is_pointing a x y taken is at = (ap (λ (z : Stripe). z.names) at ∙ ap (λ (z : Stripe). z.names) is, ap (λ (z : Stripe). z.trie) at ∙ ap (λ (z : Stripe). z.trie) is)
+
+pub is_unchanged : (x y taken : Stripe) → x ≡ taken → y ≡ x → IsUnchanged taken y
+is_unchanged x y taken is at = (ap (λ (z : Stripe). z.names) (at ∙ is), ap (λ (z : Stripe). z.trie) (at ∙ is))

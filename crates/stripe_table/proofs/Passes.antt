@@ -1,5 +1,5 @@
 -- Passes that are made and after_take in, and the table's beginning and end.
-use Rattle.std.proofs.Common.{◌≡◌, ◌≢◌, ℕ, zero, suc, ◌+◌, ◌*◌, ◌<◌, ◌≤◌, ◌⊎◌, true, false, List, [], ◌∷◌, ◌++◌, length, replicate, get_or, set, sym, refl, ap, ◌∙◌, subst, arith, inl, ⊎_elim, true≢false}
+use Rattle.std.proofs.Common.{◌≡◌, ◌≢◌, ℕ, zero, suc, ◌+◌, ◌*◌, ◌^◌, ◌<◌, ◌≤◌, ◌⊎◌, true, false, List, [], ◌∷◌, ◌++◌, length, replicate, get_or, set, sym, refl, ap, ◌∙◌, subst, arith, inl, ⊎_elim, true≢false}
 use mathlib.Core.Logic.{dite}
 use native.Mathlib.Decide.{dec_lt}
 use mathlib.Core.Option.{some, some-injective, some-ne-none}
@@ -23,7 +23,7 @@ abbrev Homes : Type 0
 Homes = List (maybe.Option Stripe)
 
 abbrev pub IsLast : Chunks → PassView → List Stripe → Type 0
-IsLast p v xs = (v.plan ≡ p) × ((t : ℕ) → t < 16 → (x : Stripe) × (get_elem? xs t ≡ some x) × Fits p t (done t v) x) × (0 < v.over → length p ≤ v.got) × (v.splits ≡ 0 → v.busy ≡ 0) × (sum_below 16 (λ t. done t v) ≡ length v.puts)
+IsLast p v xs = (v.plan ≡ p) × ((t : ℕ) → t < 16 → (x : Stripe) × (get_elem? xs t ≡ some x) × Fits p t (done t v) x) × (0 < v.over → length p ≤ v.got) × (v.splits ≡ 0 → v.busy ≡ 0) × (sum_below 16 (λ t. done t v) ≡ length v.puts) × (v.got + v.over < 2 ^ 64 → v.got ≤ length p)
 
 pub at_replicate : {A : Type 0} (n i : ℕ) (a x : A) → get_elem? (replicate n a) i ≡ some x → x ≡ a
 at_replicate zero i a x e = absurd (some-ne-none x (sym e))
@@ -41,6 +41,7 @@ module _ (p : Chunks) where
         deep = kept.deep;
         drawn = subst (λ (z : ℕ). (get_or s.words 0 0 ≤ z) ⊎ (length p ≤ z)) (sym (same got refl refl)) kept.drawn;
         past = let a = kept.past in let g = same got refl refl in let b = same over refl refl in λ z. let y = a (omega arith) in omega arith;
+        exact = let a = kept.exact in let g = same got refl refl in let f = same over refl refl in λ z. let b = a (omega arith) in let is = b.0 in let le = b.1 in (omega arith, omega arith);
         ones = same first refl refl ∙ kept.ones;
         lives = let a = kept.lives in let b1 = sum live in let b2 = same joins refl refl in let b3 = sum splits in omega arith;
         stripes = λ t lt. let k = kept.stripes t lt in record {
@@ -51,10 +52,10 @@ module _ (p : Chunks) where
         };
         seats = λ j u e. ⊎_elim
             (λ a. others_seated p vs id l (λ t. total (done t) vs) (λ t. total (done t) (set vs id l ++ r ∷ [])) kept.seats
-            (record { knows = o.knows; quiet = λ no. absurd (true≢false (sym f ∙ no)); held = λ t k q. ((o.held t k q).0, (o.held t k q).1 ∙ sym (d t)); gone = λ no. absurd (true≢false (sym alive ∙ no)); owing = o.owing; placed = o.placed })
+            (record { knows = o.knows; quiet = λ no. absurd (true≢false (sym f ∙ no)); held = λ t k q. ((o.held t k q).0, (o.held t k q).1 ∙ sym (d t)); gone = λ no. absurd (true≢false (sym alive ∙ no)); owing = o.owing; placed = o.placed; had = o.had })
             (λ j u n e t k q. sym (d t)) j u a)
             (λ (a : r ≡ u). subst (SeatOk p (λ t. total (done t) (set vs id l ++ r ∷ []))) a
-            (record { knows = λ _. o.knows alive; quiet = λ _. (refl, refl); held = λ t k q. absurd (cc); gone = λ no. absurd (true≢false no); owing = λ c t z. absurd (omega arith); placed = λ t z. absurd (omega arith) }))
+            (record { knows = λ _. o.knows alive; quiet = λ _. (refl, refl); held = λ t k q. absurd (cc); gone = λ no. absurd (true≢false no); owing = λ c t z. absurd (omega arith); placed = λ t z. absurd (omega arith); had = λ t k z. absurd (cc) }))
             (at_snoc (set vs id l) r u j e);
         alone = λ j u e. ⊎_elim
             (λ a. ⊎_elim (λ (z : (j ≡ id) × (l ≡ u)). λ _ none_made. let y : splits l ≡ splits u = ap splits z.1 in absurd (omega arith))
@@ -75,12 +76,13 @@ module _ (p : Chunks) where
       let made : splits v ≢ 0 = λ z. let y = only_first p s.words s.homes vs kept id other v w at f z was two in let x = one_weight w.live alive' in absurd (omega arith) in
       let old : (j : ℕ) (u : PassView) → get_elem? (set vs id b) j ≡ some u → SeatOk p (λ t. total (done t) vs') u =
       others_seated p vs id b (λ t. total (done t) vs) (λ t. total (done t) vs') kept.seats
-      (record { knows = o.knows; quiet = λ no. absurd (true≢false (sym f ∙ no)); held = λ t k z. ((o.held t k z).0, (o.held t k z).1 ∙ sym (d t)); gone = λ no. absurd (true≢false (sym alive ∙ no)); owing = λ c t z. dite (dec_lt 0 (owes c t v)) (λ y. o.owing c t y) (λ n. q.owing c t (let a = piece_append c t v.owed w.owed in omega arith)); placed = λ t z. dite (dec_lt 0 (done t v)) (λ y. o.placed t y) (λ n. q.placed t (let a = times_append t v.puts w.puts in omega arith)) })
+      (record { knows = o.knows; quiet = λ no. absurd (true≢false (sym f ∙ no)); held = λ t k z. ((o.held t k z).0, (o.held t k z).1 ∙ sym (d t)); gone = λ no. absurd (true≢false (sym alive ∙ no)); owing = λ c t z. dite (dec_lt 0 (owes c t v)) (λ y. o.owing c t y) (λ n. q.owing c t (let a = piece_append c t v.owed w.owed in omega arith)); placed = λ t z. dite (dec_lt 0 (done t v)) (λ y. o.placed t y) (λ n. q.placed t (let a = times_append t v.puts w.puts in omega arith)); had = o.had })
       (λ j u n e t k z. sym (d t)) in record {
         wide = kept.wide;
         deep = kept.deep;
         drawn = subst (λ (z : ℕ). (get_or s.words 0 0 ≤ z) ⊎ (length p ≤ z)) (sym (same got refl refl)) kept.drawn;
         past = let a = kept.past in let g = same got refl refl in let c = same over refl refl in λ z. let y = a (omega arith) in omega arith;
+        exact = let a = kept.exact in let g = same got refl refl in let f = same over refl refl in λ z. let c = a (omega arith) in let is = c.0 in let le = c.1 in (omega arith, omega arith);
         ones = let a = sum first in let z : first w ≡ 0 = ap weight not in let y = kept.ones in omega arith;
         lives = let a = kept.lives in let b1 = sum live in let b2 = sum joins in let b3 = sum splits in let x = one_weight w.live alive' in let y = still.0 in let z = still.1 in omega arith;
         stripes = λ t lt. let k = kept.stripes t lt in record {
@@ -90,7 +92,7 @@ module _ (p : Chunks) where
           at_home = λ z. let x = k.at_home (sym (h t) ∙ z) in (x.0, x.1, subst (λ (n : ℕ). Fits p t n x.0) (sym (d t)) x.2);
         };
         seats = λ j u e. ⊎_elim
-            (λ (z : (j ≡ other) × (spent_view ≡ u)). subst (SeatOk p (λ t. total (done t) vs')) z.1 (record { knows = λ no. absurd (true≢false (sym no)); quiet = λ _. (refl, refl); held = λ t k z. absurd (cc); gone = λ _. refl; owing = λ c t z. absurd (omega arith); placed = λ t z. absurd (omega arith) }))
+            (λ (z : (j ≡ other) × (spent_view ≡ u)). subst (SeatOk p (λ t. total (done t) vs')) z.1 (record { knows = λ no. absurd (true≢false (sym no)); quiet = λ _. (refl, refl); held = λ t k z. absurd (cc); gone = λ _. refl; owing = λ c t z. absurd (omega arith); placed = λ t z. absurd (omega arith); had = λ t k z. absurd (cc) }))
             (λ (z : (j ≢ other) × (get_elem? (set vs id b) j ≡ some u)). old j u z.1)
             (at_set (set vs id b) other j spent_view u e);
         alone = λ j u e. ⊎_elim
@@ -121,6 +123,7 @@ module _ (p : Chunks) where
         (let a = kept.past in let b = only got refl in let c = only over refl in λ z. let y = a (omega arith) in omega arith),
         (λ z. ((kept.alone id v at) f z).0),
         up_to_all 16 v.puts o.placed,
+        (let a = kept.exact in let b = only got refl in let c = only over refl in λ z. let y = (a (omega arith)).1 in omega arith),
       )
 
   pub opens : (ws : List ℕ) (xs : List Stripe) → length ws ≡ 17 → ((i : ℕ) → get_or ws i 0 ≡ 0) → length xs ≡ 16 → ((i : ℕ) (x : Stripe) → get_elem? xs i ≡ some x → x ≡ empty_stripe) → Ruled p (opening ws xs (first_view p))
@@ -129,6 +132,7 @@ module _ (p : Chunks) where
     deep = length-map xs some ∙ deep;
     drawn = inl (let z = zeros 0 in omega arith);
     past = λ z. absurd (omega arith);
+    exact = λ z. (let y = zeros 0 in omega arith, omega arith);
     ones = refl;
     lives = refl;
     stripes = λ t lt. let z = zeros (t + 1) in record {
@@ -137,7 +141,7 @@ module _ (p : Chunks) where
       few = omega arith;
       at_home = λ _. let x = there xs t (omega arith) in (x.0, at_map some xs t x.0 x.1, let is : empty_stripe ≡ x.0 = sym (empty t x.0 x.1) in subst (Fits p t 0) is (empty_fits t));
     };
-    seats = λ j u e. let is = only_one (first_view p) u j e in subst (SeatOk p (λ t. 0)) is (record { knows = λ _. refl; quiet = λ no. absurd (true≢false no); held = λ t k h. absurd (cc); gone = λ no. absurd (true≢false no); owing = λ c t z. absurd (omega arith); placed = λ t z. absurd (omega arith) });
+    seats = λ j u e. let is = only_one (first_view p) u j e in subst (SeatOk p (λ t. 0)) is (record { knows = λ _. refl; quiet = λ no. absurd (true≢false no); held = λ t k h. absurd (cc); gone = λ no. absurd (true≢false no); owing = λ c t z. absurd (omega arith); placed = λ t z. absurd (omega arith); had = λ t k z. absurd (cc) });
     alone = λ j u e. let is = only_one (first_view p) u j e in subst (Alone ws) is (λ _ _. (refl, λ s e h. absurd (cc)));
   }
     where

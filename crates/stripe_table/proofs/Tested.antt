@@ -19,11 +19,11 @@ pub keeps_claim : (v u w : PassView) → w ≡ u → KeepsDistance v u → (u.ho
 keeps_claim v u w is k h = (kept v u w is k, ap (λ (z : PassView). z.hold) is ∙ h)
 
 pub keeps_took : (s : ℕ) (v w : PassView) (r : Take) → Took s v w r → KeepsDistance v w
-keeps_took s v w Held o = kept v _ w o.1 (refl, refl, refl)
+keeps_took s v w Held o = kept v _ w o.2 (refl, refl, refl)
 keeps_took s v w (Busy l f) o = kept v _ w o (refl, refl, refl)
 
 pub took_held : (s : ℕ) (v w : PassView) (r : Take) → Took s v w r → r ≡ Held → (k : ℕ) × (w.hold ≡ Holds s k)
-took_held s v w r o is = let q = subst (Took s v w) is o in (q.0 / 2, ap (λ (z : PassView). z.hold) q.1)
+took_held s v w r o is = let q = subst (Took s v w) is o in (q.0 / 2, ap (λ (z : PassView). z.hold) q.2)
 
 pub took_busy : (s : ℕ) (v w : PassView) (r : Take) → Took s v w r → v.hold ≡ Free → (l f : ℕ) → r ≡ Busy l f → w.hold ≡ Free
 took_busy s v w r o free l f is = let q = subst (Took s v w) is o in ap (λ (z : PassView). z.hold) q ∙ free

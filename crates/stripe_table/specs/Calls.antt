@@ -1,6 +1,7 @@
 -- What the calls do to a pass.
 use Rattle.std.specs.Prelude.{◌≡◌, ℕ}
 use Rattle.stripe_table.specs.declared.view.PassView.{PassView}
+use Rattle.stripe_table.specs.declared.stripe.Stripe.{Stripe}
 use Rattle.stripe_table.specs.declared.table.Take.{Take}
 use Rattle.stripe_table.specs.declared.table.Take.TheVariants.{Held, Busy}
 use Rattle.stripe_table.specs.declared.table.Laid.{Laid}
@@ -9,9 +10,9 @@ use Rattle.stripe_table.specs.declared.offer.Offered.{Offered}
 use Rattle.stripe_table.specs.declared.offer.Offered.TheVariants as offered
 use Rattle.stripe_table.specs.Views.{after_busy, after_take, after_put, after_put_back, after_present}
 
--- stripe s was taken; or it was busy, with the word looked at and the word found
+-- stripe s was taken, as it was; or it was busy, with the word looked at and the word found
 abbrev pub Took : ℕ → PassView → PassView → Take → Type 0
-Took s v w Held = (e : ℕ) × (w ≡ after_take s e v)
+Took s v w Held = (e : ℕ) × (x : Stripe) × (w ≡ after_take s e x v)
 Took s v w (Busy l f) = w ≡ after_busy s l f v
 
 -- the piece of chunk c was merged into stripe s, which had k pieces; or the stripe has it at index p; or it was put

@@ -1,5 +1,5 @@
--- When a stripe fits a plan.
-use Rattle.std.specs.Prelude.{◌≡◌, ℕ, ◌<◌, ◌≤◌, length, sum_by}
+-- When a stripe fits a plan, and how one stripe follows from another.
+use Rattle.std.specs.Prelude.{◌≡◌, ℕ, ◌<◌, ◌≤◌, [], ◌∷◌, ◌++◌, length, sum_by}
 use Rattle.std.specs.List.{flat_map, list_any}
 use Rattle.tree_types.specs.Paths.{Path}
 use Rattle.path_trie.specs.Trie.{count_of, has_node, all_prefixes, trie_nodes, samples_of, entry_scopes}
@@ -22,3 +22,11 @@ pub record Fits (plan : Chunks) (s k : ℕ) (x : Stripe) : Type 0 where
       → has_node (trie_nodes x.trie) n ≡ list_any (λ c. has_node (all_prefixes (dealt plan c s)) n) x.names
   pub samples : samples_of x.trie ≡ sum_by (λ c. samples_of (dealt plan c s)) x.names
   pub scopes : length (trie_nodes x.trie) ≤ sum_by (λ c. entry_scopes (dealt plan c s)) x.names
+
+-- y has the names of x, and its trie stands for the same entries
+abbrev pub IsUnchanged : Stripe → Stripe → Type 0
+IsUnchanged x y = (y.names ≡ x.names) × (y.trie ≡ x.trie)
+
+-- y is x with the piece of chunk c for stripe s behind the pieces that x has: x's names and entries are y's first
+abbrev pub IsLonger : Chunks → ℕ → ℕ → Stripe → Stripe → Type 0
+IsLonger plan s c x y = (y.names ≡ x.names ++ c ∷ []) × (y.trie ≡ x.trie ++ dealt plan c s)

@@ -1,5 +1,5 @@
 -- What holds of every table that the steps reach.
-use Rattle.std.specs.Prelude.{◌≡◌, ◌≢◌, ℕ, ◌+◌, ◌*◌, ◌/◌, ◌%◌, ◌<◌, ◌≤◌, min, true, false, length, slice_index}
+use Rattle.std.specs.Prelude.{◌≡◌, ◌≢◌, ℕ, ◌+◌, ◌*◌, ◌/◌, ◌%◌, ◌^◌, ◌<◌, ◌≤◌, min, true, false, length, slice_index}
 use Rattle.scope_types.specs.Limits.{stripe_count}
 use mathlib.Core.Option.{some}
 use lib.ListN.{get_elem?}
@@ -8,7 +8,7 @@ use Rattle.stripe_table.specs.declared.view.PassView.{PassView}
 use Rattle.stripe_table.specs.declared.view.Hold.TheVariants.{Holds}
 use Rattle.stripe_table.specs.declared.view.Last.TheVariants.{Saw}
 use Rattle.stripe_table.specs.declared.stripe.Stripe.{Stripe}
-use Rattle.stripe_table.specs.Views.{total, got, live, done, owes, spent_view}
+use Rattle.stripe_table.specs.Views.{total, got, over, live, done, owes, spent_view}
 use Rattle.stripe_table.specs.Fits.{Fits}
 use Rattle.stripe_table.specs.Machine.{MergeState, Reached, stripe_word}
 
@@ -31,6 +31,12 @@ DrawsCounted plan s = min (slice_index s.words 0) (length plan) ≤ total got s.
 -- where a pass drew a number past the last chunk, the passes drew all numbers of chunks
 abbrev pub AllDrawn : Chunks → MergeState → Type 0
 AllDrawn plan s = (j : ℕ) (v : PassView) → Shows s j v → 0 < v.over → length plan ≤ total got s.views
+
+-- as long as the passes drew fewer than 2^64 numbers, the first word is how many they drew. So each claim, which draws
+-- that word, draws another number than all claims before it; and no more numbers of chunks are drawn than there are
+abbrev pub DrawsInOrder : Chunks → MergeState → Type 0
+DrawsInOrder plan s = total got s.views + total over s.views < 2 ^ 64
+    → (slice_index s.words 0 ≡ total got s.views + total over s.views) × (total got s.views ≤ length plan)
 
 -- the word of a stripe is 2 k + 1 exactly where a pass holds the stripe with k pieces, and then no other holds it
 abbrev pub OddIsHeld : Chunks → MergeState → Type 0
@@ -56,6 +62,10 @@ PutsCounted plan s = (t : ℕ) → t < stripe_count → stripe_word s t / 2 ≡ 
 abbrev pub HomeFits : Chunks → MergeState → Type 0
 HomeFits plan s = (t : ℕ) → t < stripe_count → stripe_word s t % 2 ≡ 0
     → (x : Stripe) × (get_elem? s.homes t ≡ some (some x)) × Fits plan t (stripe_word s t / 2) x
+
+-- what a pass took fits the plan as long as the pass holds it, with as many names as it shows
+abbrev pub TakenFits : Chunks → MergeState → Type 0
+TakenFits plan s = (j t k : ℕ) (v : PassView) → Shows s j v → v.hold ≡ Holds t k → Fits plan t k v.taken
 
 -- one pass is first and unspent, and its splits less its joins are the other unspent passes; all others have none
 abbrev pub OneFirst : Chunks → MergeState → Type 0

@@ -14,7 +14,7 @@ use Rattle.stripe_table.specs.declared.stripe.Stripe.{Stripe}
 use Rattle.stripe_table.specs.Stripe.{empty_stripe}
 use Rattle.stripe_table.specs.Views.{first_view, fresh_view, spent_view, after_draw, after_look, after_busy, after_take}
 use Rattle.stripe_table.specs.Views.{after_put, after_put_back, after_present, after_split, after_join}
-use Rattle.stripe_table.specs.Fits.{Fits}
+use Rattle.stripe_table.specs.Fits.{Fits, IsUnchanged, IsLonger}
 
 -- the words, the stripes that are at home in their slots, and what each pass shows
 abbrev pub MergeState : Type 0
@@ -79,20 +79,21 @@ pub data Step (s s' : MergeState) : Type 0 where
   -- a pass takes a stripe whose word is still the even number that it saw
   take : (id : ℕ) (v : PassView) (t e : ℕ) (x : Stripe) → IsPass s id v → v.hold ≡ Free → v.last ≡ Saw t e
       → e % 2 ≡ 0 → t < stripe_count → stripe_word s t ≡ e → get_elem? s.homes t ≡ some (some x)
-      → s' ≡ with_stripe s id (after_take t e v) t (e + 1) none → Step s s'
+      → s' ≡ with_stripe s id (after_take t e x v) t (e + 1) none → Step s s'
   -- a pass finds another number than it saw
   miss : (id : ℕ) (v : PassView) (t e : ℕ) → IsPass s id v → v.last ≡ Saw t e → stripe_word s t ≢ e
       → s' ≡ with_view s id (after_busy t e (stripe_word s t) v) → Step s s'
-  -- a pass puts back a stripe that fits the plan with one name more
+  -- a pass puts back a stripe that fits the plan with one name more: the one that it took, with one piece more
   puts : (id : ℕ) (v : PassView) (t k : ℕ) (x : Stripe) → IsPass s id v → v.hold ≡ Holds t k
-      → Fits v.plan t (k + 1) x
+      → Fits v.plan t (k + 1) x → IsLonger v.plan t (slice_index x.names k) v.taken x
       → s' ≡ with_stripe s id (after_put t k (slice_index x.names k) v) t (2 * k + 2) (some x) → Step s s'
-  -- a pass puts back a stripe that fits the plan with as many names
+  -- a pass puts back a stripe that fits the plan with as many names: the one that it took, unchanged
   puts_back : (id : ℕ) (v : PassView) (t k : ℕ) (x : Stripe) → IsPass s id v → v.hold ≡ Holds t k
-      → Fits v.plan t k x → s' ≡ with_stripe s id (after_put_back v) t (2 * k) (some x) → Step s s'
+      → Fits v.plan t k x → IsUnchanged v.taken x
+      → s' ≡ with_stripe s id (after_put_back v) t (2 * k) (some x) → Step s s'
   -- the same, where it found the name of a piece at index p
   meets : (id : ℕ) (v : PassView) (t k p : ℕ) (x : Stripe) → IsPass s id v → v.hold ≡ Holds t k
-      → Fits v.plan t k x → p < k
+      → Fits v.plan t k x → IsUnchanged v.taken x → p < k
       → s' ≡ with_stripe s id (after_present t p (slice_index x.names p) v) t (2 * k) (some x) → Step s s'
   -- the first pass makes another
   split : (id : ℕ) (v : PassView) → IsPass s id v → v.first ≡ true

@@ -7,6 +7,8 @@ use Rattle.stripe_table.specs.declared.view.PassView.{PassView}
 use Rattle.stripe_table.specs.declared.view.Hold.{Hold}
 use Rattle.stripe_table.specs.declared.view.Hold.TheVariants.{Free, Holds}
 use Rattle.stripe_table.specs.declared.view.Last.TheVariants.{Nothing, Drew, Saw, Found, Named}
+use Rattle.stripe_table.specs.declared.stripe.Stripe.{Stripe}
+use Rattle.stripe_table.specs.Stripe.{empty_stripe}
 
 -- ---- counting
 
@@ -111,6 +113,7 @@ fresh_view is_first chunks = record {
   puts = [];
   owed = [];
   hold = Free;
+  taken = empty_stripe;
   last = Nothing;
 }
 
@@ -133,6 +136,7 @@ spent_view = record {
   puts = [];
   owed = [];
   hold = Free;
+  taken = empty_stripe;
   last = Nothing;
 }
 
@@ -153,9 +157,9 @@ after_busy s e w v = record v { busy = v.busy + 1; last = Found s e w }
 abbrev pub after_look : ℕ → ℕ → PassView → PassView
 after_look s w v = cond (w % 2 == 0) (record v { last = Saw s w }) (after_busy s w w v)
 
--- it took stripe s, whose word was e
-abbrev pub after_take : ℕ → ℕ → PassView → PassView
-after_take s e v = record v { hold = Holds s (e / 2); last = Nothing }
+-- it took stripe s, which was x, and whose word was e
+abbrev pub after_take : ℕ → ℕ → Stripe → PassView → PassView
+after_take s e x v = record v { hold = Holds s (e / 2); taken = x; last = Nothing }
 
 -- it put back stripe s with one more than k names, the last of which is c
 abbrev pub after_put : ℕ → ℕ → ℕ → PassView → PassView
@@ -163,18 +167,20 @@ after_put s k c v = record v {
   puts = v.puts ++ s ∷ [];
   owed = without c s v.owed;
   hold = Free;
+  taken = empty_stripe;
   last = Named s k c;
 }
 
 -- it put back a stripe as it was
 abbrev pub after_put_back : PassView → PassView
-after_put_back v = record v { hold = Free; last = Nothing }
+after_put_back v = record v { hold = Free; taken = empty_stripe; last = Nothing }
 
 -- it put back stripe s as it was, whose name at index p is c
 abbrev pub after_present : ℕ → ℕ → ℕ → PassView → PassView
 after_present s p c v = record v {
   owed = without c s v.owed;
   hold = Free;
+  taken = empty_stripe;
   met = v.met + 1;
   last = Named s p c;
 }

@@ -1,5 +1,5 @@
 //! How a table begins and ends.
-ghost use Rattle.std.specs.Prelude.{◌≡◌, ℕ, ◌<◌, ◌≤◌, ◌+◌, ◌++◌, ◌∷◌, ◌≢◌, true, [], IfOk, OnOk, OnErr, replicate};
+ghost use Rattle.std.specs.Prelude.{◌≡◌, ℕ, ◌<◌, ◌≤◌, ◌+◌, ◌^◌, ◌++◌, ◌∷◌, ◌≢◌, true, [], IfOk, OnOk, OnErr, replicate};
 ghost use Rattle.std.specs.Prelude.{length};
 ghost use Rattle.std.specs.Prelude.{vec_capacity};
 ghost use Rattle.core.specs.Mem.Slots.{slots_items, slots_len, IsFull};
@@ -145,6 +145,7 @@ impl Stripes {
         ensures names { (s : ℕ) → s < stripe_count → length (stripe_names result.stripes s) ≡ done s pass.view }
         ensures all { AllFit result.view.plan result.stripes }
         ensures drawn { 0 < pass.view.over → length self.plan ≤ pass.view.got }
+        ensures once { pass.view.got + pass.view.over < 2 ^ 64 → pass.view.got ≤ length self.plan }
         ensures busy { pass.view.splits ≡ 0 → pass.view.busy ≡ 0 }
         ensures sum { sum_below stripe_count (λ s. done s pass.view) ≡ length pass.view.puts }
     {

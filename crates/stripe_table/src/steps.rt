@@ -4,7 +4,7 @@ ghost use Rattle.scope_types.specs.Limits.{stripe_count};
 ghost use Rattle.stripe_table.specs.private.Adding.{AddedAs};
 ghost use Rattle.stripe_table.specs.private.Found.{LaidSlot, TookSlot};
 ghost use Rattle.stripe_table.specs.Limits.{IsLimited, IsPieceOf};
-ghost use Rattle.stripe_table.specs.Fits.{Fits};
+ghost use Rattle.stripe_table.specs.Fits.{Fits, IsLonger, IsUnchanged};
 ghost use Rattle.stripe_table.specs.private.Seats.{Sits, SitsFree, SitsOn, IsSame};
 ghost use Rattle.stripe_table.specs.private.Adding.{HasRoom};
 ghost use Rattle.stripe_table.specs.Views.{after_draw, after_look, after_put, after_put_back, after_present};
@@ -50,32 +50,33 @@ fn exchange(table: &SharedTable, seat: &mut PassSeat, stripe: usize, seen: u64) 
     }
 }
 
-/// Puts a stripe back with one piece more than the `count` it had.
+/// Puts back the stripe that was taken, with one piece more than the `count` it had.
 fn put_longer(table: &SharedTable, seat: &mut PassSeat, stripe: usize, count: u64)
     requires { (stripe < stripe_count) × (count < 2 ^ 32) × ((x : Stripe)
         × SitsOn table.now.table_id stripe count x seat.old
-        × Fits seat.old.me.0.plan stripe (count + 1) x) }
+        × Fits seat.old.me.0.plan stripe (count + 1) x
+        × IsLonger seat.old.me.0.plan stripe (slice_index x.names count) seat.old.me.0.taken x) }
     ensures { IsSame seat.old seat.new × ((x : Stripe) → seat.old.me.1 ≡ (stripe, x) ∷ []
         → seat.new.me ≡ (after_put stripe count (slice_index x.names count) seat.old.me.0, [])) }
 {
     table.store::<PutLonger>(seat, stripe + 1, 2 * count + 2)
 }
 
-/// Puts a stripe back with the `count` pieces that it had.
+/// Puts back the stripe that was taken, with the `count` pieces that it had.
 fn put_back(table: &SharedTable, seat: &mut PassSeat, stripe: usize, count: u64)
     requires { (stripe < stripe_count) × (count < 2 ^ 32) × ((x : Stripe)
         × SitsOn table.now.table_id stripe count x seat.old
-        × Fits seat.old.me.0.plan stripe count x) }
+        × Fits seat.old.me.0.plan stripe count x × IsUnchanged seat.old.me.0.taken x) }
     ensures { IsSame seat.old seat.new × (seat.new.me ≡ (after_put_back seat.old.me.0, [])) }
 {
     table.store::<PutBack>(seat, stripe + 1, 2 * count)
 }
 
-/// Puts a stripe back with the `count` pieces that it had, where it points at the name of a piece.
+/// Puts back the stripe that was taken, with the `count` pieces that it had, where it points at the name of a piece.
 fn put_present(table: &SharedTable, seat: &mut PassSeat, stripe: usize, count: u64)
     requires { (stripe < stripe_count) × (count < 2 ^ 32) × ((x : Stripe)
         × SitsOn table.now.table_id stripe count x seat.old
-        × Fits seat.old.me.0.plan stripe count x × (x.index < count)) }
+        × Fits seat.old.me.0.plan stripe count x × IsUnchanged seat.old.me.0.taken x × (x.index < count)) }
     ensures { IsSame seat.old seat.new × ((x : Stripe) → seat.old.me.1 ≡ (stripe, x) ∷ []
         → seat.new.me ≡ (after_present stripe x.index (slice_index x.names x.index) seat.old.me.0, [])) }
 {
@@ -124,7 +125,7 @@ pub(crate) fn take_at(table: &SharedTable, seat: &mut PassSeat, stripe: usize) -
 pub(crate) fn lay_at(table: &SharedTable, seat: &mut PassSeat, piece: &Piece) -> Laid
     requires plan { IsLimited seat.old.me.0.plan × IsPieceOf seat.old.me.0.plan piece.now }
     requires held { (x : Stripe) × SitsOn table.now.table_id piece.now.stripe (length x.names) x seat.old
-        × Fits seat.old.me.0.plan piece.now.stripe (length x.names) x }
+        × Fits seat.old.me.0.plan piece.now.stripe (length x.names) x × (x ≡ seat.old.me.0.taken) }
     ensures { IsSame seat.old seat.new × ((x : Stripe) → seat.old.me.1 ≡ (piece.now.stripe, x) ∷ []
         → LaidSlot piece.now.stripe (length x.names) piece.now.chunk seat.old.me.0 seat.new.me result) }
 {
@@ -149,7 +150,7 @@ pub(crate) fn lay_at(table: &SharedTable, seat: &mut PassSeat, piece: &Piece) ->
 pub(crate) fn let_go_at(table: &SharedTable, seat: &mut PassSeat, stripe: usize)
     requires plan { (stripe < stripe_count) × IsLimited seat.old.me.0.plan }
     requires held { (x : Stripe) × SitsOn table.now.table_id stripe (length x.names) x seat.old
-        × Fits seat.old.me.0.plan stripe (length x.names) x }
+        × Fits seat.old.me.0.plan stripe (length x.names) x × (x ≡ seat.old.me.0.taken) }
     ensures { IsSame seat.old seat.new × (seat.new.me ≡ (after_put_back seat.old.me.0, [])) }
 {
     let count = held_count(table, seat, stripe);

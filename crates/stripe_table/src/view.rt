@@ -1,3 +1,4 @@
+use crate::stripe::Stripe;
 use scope_types::Entry;
 use std::collections::LinkedList;
 
@@ -46,5 +47,7 @@ pub struct PassView {
     /// The pieces that the pass has to offer: a chunk and a stripe each.
     pub owed: LinkedList<(u64, u64)>,
     pub hold: Hold,
+    /// The stripe that it holds, as it was when the pass took it. Without pieces where it holds none.
+    pub taken: Stripe,
     pub last: Last,
 }

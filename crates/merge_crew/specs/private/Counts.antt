@@ -36,20 +36,33 @@ pub record KeepsDraws (w w' : Worker) : Type 0 where
 pub record IsIdle (stripes : StripesValue) (w : Worker) : Type 0 where
   pub counts : Counts stripes 0 w
   pub none : w.pass.view.got ≡ 0
+  pub over : w.pass.view.over ≡ 0
 
 -- unless memory ran out, it drew as many numbers as there are chunks, or one past the last
 abbrev pub DrewAll : StripesValue → Worker → Type 0
 DrewAll stripes w = w.failed ≡ None → (length stripes.plan ≤ w.pass.view.got) ⊎ (0 < w.pass.view.over)
 
+-- of k + 1 workers, which drew `got` of n numbers of chunks and `over` numbers past the last: each drew such a number;
+-- or all but one did, and that one drew as many numbers as there are chunks; or two did
+abbrev pub DrewEach : ℕ → ℕ → ℕ → ℕ → Type 0
+DrewEach n k got over = (k + 1 ≤ over) ⊎ (((k ≤ over) × (n ≤ got)) ⊎ (2 * n ≤ got))
+
+-- unless memory ran out, the worker and those that it took in did so
+abbrev pub TeamDrew : StripesValue → Worker → Type 0
+TeamDrew stripes w = w.failed ≡ None
+    → DrewEach (length stripes.plan) w.pass.view.joins w.pass.view.got w.pass.view.over
+
 -- a worker that has ended its work
 pub record HasEnded (stripes : StripesValue) (w : Worker) : Type 0 where
   pub counts : Counts stripes 0 w
   pub few : w.pass.view.got < 2 ^ 32
+  pub past : w.pass.view.over ≤ 1
   pub drew : DrewAll stripes w
 
 -- the first worker, which takes in the others
 pub record IsFirstWorker (stripes : StripesValue) (w : Worker) : Type 0 where
   pub counts : Counts stripes 0 w
   pub few : w.pass.view.got < 2 ^ 32 * (w.pass.view.joins + 1)
+  pub past : w.pass.view.over ≤ w.pass.view.joins + 1
   pub drew : DrewAll stripes w
   pub first : w.pass.view.first ≡ true

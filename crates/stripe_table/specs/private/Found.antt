@@ -12,7 +12,7 @@ use Rattle.stripe_table.specs.Views.{after_busy, after_take, after_put, after_pu
 
 -- stripe s was taken, and lies in hand; or it was busy
 abbrev pub TookSlot : ℕ → PassView → Me Stripe PassView → Take → Type 0
-TookSlot s v m Held = (e : ℕ) × (x : Stripe) × Fits v.plan s (e / 2) x × (m ≡ (after_take s e v, (s, x) ∷ []))
+TookSlot s v m Held = (e : ℕ) × (x : Stripe) × Fits v.plan s (e / 2) x × (m ≡ (after_take s e x v, (s, x) ∷ []))
 TookSlot s v m (Busy l f) = m ≡ (after_busy s l f v, [])
 
 -- a piece was laid into stripe s, which had k pieces and was in hand

@@ -1,5 +1,5 @@
 -- What the steps keep, in sums over the passes.
-use Rattle.std.specs.Prelude.{◌≡◌, ℕ, ◌+◌, ◌*◌, ◌<◌, ◌≤◌, ◌⊎◌, true, false, List, length, slice_index}
+use Rattle.std.specs.Prelude.{◌≡◌, ℕ, ◌+◌, ◌*◌, ◌^◌, ◌<◌, ◌≤◌, ◌⊎◌, true, false, List, length, slice_index}
 use Rattle.scope_types.specs.Limits.{stripe_count}
 use mathlib.Core.Option.{Option, some}
 use lib.ListN.{get_elem?}
@@ -24,6 +24,7 @@ pub record SeatOk (p : Chunks) (d : ℕ → ℕ) (v : PassView) : Type 0 where
   pub knows : v.live ≡ true → v.plan ≡ p
   pub quiet : v.first ≡ false → (v.splits ≡ 0) × (v.joins ≡ 0)
   pub held : (t k : ℕ) → v.hold ≡ Holds t k → (t < stripe_count) × (k ≡ d t)
+  pub had : (t k : ℕ) → v.hold ≡ Holds t k → Fits p t k v.taken
   pub gone : v.live ≡ false → v ≡ spent_view
   pub placed : (s : ℕ) → 0 < done s v → s < stripe_count
   pub owing : (c s : ℕ) → 0 < owes c s v → (c < length p) × (s < stripe_count)
@@ -38,6 +39,8 @@ pub record Kept (p : Chunks) (ws : List ℕ) (hs : List (Option Stripe)) (vs : L
   pub deep : length hs ≡ stripe_count
   pub drawn : (slice_index ws 0 ≤ total got vs) ⊎ (length p ≤ total got vs)
   pub past : 0 < total over vs → length p ≤ total got vs
+  pub exact : total got vs + total over vs < 2 ^ 64
+      → (slice_index ws 0 ≡ total got vs + total over vs) × (total got vs ≤ length p)
   pub ones : total first vs ≡ 1
   pub lives : total live vs + total joins vs ≡ 1 + total splits vs
   pub stripes : (t : ℕ) → t < stripe_count

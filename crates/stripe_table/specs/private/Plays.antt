@@ -30,7 +30,7 @@ carried (x ∷ xs) = x.1
 abbrev pub takes : Step Stripe → Sat → ℕ → Sat → Type 0
 takes st m w m' = (s : ℕ) → st.word ≡ s + 1
     → (w ≡ st.first → (x : Stripe) × Fits m.0.plan s (st.first / 2) x
-    × (m' ≡ (after_take s st.first m.0, (s, x) ∷ m.1)))
+    × (m' ≡ (after_take s st.first x m.0, (s, x) ∷ m.1)))
     × (w ≢ st.first → m' ≡ (after_busy s st.first w m.0, m.1))
 
 -- put back with one name more

@@ -11,14 +11,14 @@ use Rattle.stripe_table.specs.declared.stripe.Stripe.{Stripe}
 use Rattle.stripe_table.specs.Fits.{Fits}
 use Rattle.stripe_table.specs.private.Plays.{Sat}
 
--- what a pass carries: nothing while it holds nothing, and else the stripe that it holds, which fits the plan
-abbrev pub CarriesAt : Chunks → Hold → List (ℕ × Stripe) → Type 0
-CarriesAt p Free c = c ≡ []
-CarriesAt p (Holds s k) c = (x : Stripe) × (c ≡ (s, x) ∷ []) × Fits p s k x
+-- what a pass carries: nothing while it holds nothing, and else the stripe that it took, which fits the plan
+abbrev pub CarriesAt : Chunks → Hold → Stripe → List (ℕ × Stripe) → Type 0
+CarriesAt p Free x c = c ≡ []
+CarriesAt p (Holds s k) x c = (c ≡ (s, x) ∷ []) × Fits p s k x
 
 -- what is true of each pass that a thread has
 abbrev pub Carries : Sat → Type 0
-Carries m = (m.0.live ≡ true) × CarriesAt m.0.plan m.0.hold m.1
+Carries m = (m.0.live ≡ true) × CarriesAt m.0.plan m.0.hold m.0.taken m.1
 
 -- the stripe that is held is this one
 abbrev pub HeldAt : ℕ → Hold → Type 0

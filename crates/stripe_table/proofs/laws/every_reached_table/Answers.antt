@@ -7,6 +7,9 @@ returns-clause-draws c = always.draws
 pub returns-clause-all_drawn : goal.returns-clause-all_drawn
 returns-clause-all_drawn c = always.all_drawn
 
+pub returns-clause-in_order : goal.returns-clause-in_order
+returns-clause-in_order c = always.in_order
+
 pub returns-clause-odd_is_held : goal.returns-clause-odd_is_held
 returns-clause-odd_is_held c = always.odd_held
 
@@ -21,6 +24,9 @@ returns-clause-puts c = always.puts_counted
 
 pub returns-clause-home_fits : goal.returns-clause-home_fits
 returns-clause-home_fits c = always.home_fits
+
+pub returns-clause-taken_fits : goal.returns-clause-taken_fits
+returns-clause-taken_fits c = always.taken_fits
 
 pub returns-clause-one_first : goal.returns-clause-one_first
 returns-clause-one_first c = always.one_first

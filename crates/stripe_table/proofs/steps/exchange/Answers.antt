@@ -11,7 +11,7 @@ compare_exchange-word-requires c = let r = c.requires in (search rules, search r
 
 pub returns-then-word-seen : goal.returns-then-word-seen
 returns-then-word-seen c = let e = c.compare_exchange-word.ensures in let t = (e.2 c.args.stripe refl).0 c.if-word-seen.true in
-    ((e.0, e.1), (c.args.seen, t.0, t.1, t.2 ∙ ap (λ (cs : List (ℕ × Stripe)). let m : Me Stripe PassView = (after_take c.args.stripe c.args.seen c.args.seat.now.me.0, (c.args.stripe, t.0) ∷ cs) in m) c.requires.0.2))
+    ((e.0, e.1), (c.args.seen, t.0, t.1, t.2 ∙ ap (λ (cs : List (ℕ × Stripe)). let m : Me Stripe PassView = (after_take c.args.stripe c.args.seen t.0 c.args.seat.now.me.0, (c.args.stripe, t.0) ∷ cs) in m) c.requires.0.2))
 
 pub returns-else-word-seen : goal.returns-else-word-seen
 returns-else-word-seen c = let e = c.compare_exchange-word.ensures in let t = (e.2 c.args.stripe refl).1 c.if-word-seen.false in

@@ -4,8 +4,8 @@ use Rattle.stripe_table.specs.Limits.{Chunks}
 use Rattle.stripe_table.specs.declared.view.PassView.{PassView}
 use Rattle.stripe_table.specs.declared.stripe.Stripe.{Stripe}
 use Rattle.stripe_table.specs.Views.{after_put, after_present}
-use Rattle.stripe_table.specs.Fits.{Fits}
-use Rattle.stripe_table.proofs.Laying.{fits_few, longer, pointed, ready, last_name, room}
+use Rattle.stripe_table.specs.Fits.{Fits, IsLonger, IsUnchanged}
+use Rattle.stripe_table.proofs.Laying.{fits_few, longer, pointed, ready, last_name, room, is_longer, is_pointing, is_unchanged}
 use Rattle.stripe_table.proofs.steps.lay_at.Goals as goal
 
 pub add_to_held-requires : goal.add_to_held-requires
@@ -17,7 +17,7 @@ put_longer-requires c = let h = c.requires.held in let x = h.0 in let e = c.in-A
     let f = longer _ c.args.piece.now _ x q.0 h.2 n.1 plan.1 n.2 in (
       plan.1.stripe,
       (let a = n.0 in let few = fits_few _ _ _ _ h.2 in let l = plan.0.chunks in let z : c.in-Added.count < 4294967296 = omega arith in z),
-      (q.0, ready _ _ _ _ _ _ x q.0 h.1 same.0 same.1 q.1 n.0, subst (λ (z : Chunks × ℕ). Fits z.0 c.args.piece.now.stripe (z.1 + 1) q.0) (λ i. ((sym same.1 i).plan, sym n.0 i)) f),
+      (q.0, ready _ _ _ _ _ _ x q.0 h.1 same.0 same.1 q.1 n.0, subst (λ (z : Chunks × ℕ). Fits z.0 c.args.piece.now.stripe (z.1 + 1) q.0) (λ i. ((sym same.1 i).plan, sym n.0 i)) f, subst (λ (v : PassView). IsLonger v.plan c.args.piece.now.stripe (get_or q.0.names c.in-Added.count 0) v.taken q.0) (sym same.1) (is_longer _ c.args.piece.now x q.0 _ c.in-Added.count h.3 plan.1 n.2 n.0)),
     )
 
 pub put_present-requires : goal.put_present-requires
@@ -25,7 +25,7 @@ put_present-requires c = let h = c.requires.held in let x = h.0 in let e = c.in-
     let f = pointed _ _ _ _ x q.0 h.2 n.3 in let at : q.0.index ≡ c.in-There.index = ap (λ (z : Stripe). z.index) n.3 in (
       plan.1.stripe,
       (let a = n.0 in let few = fits_few _ _ _ _ h.2 in let l = plan.0.chunks in let z : c.in-There.count < 4294967296 = omega arith in z),
-      (q.0, ready _ _ _ _ _ _ x q.0 h.1 same.0 same.1 q.1 n.0, subst (λ (z : Chunks × ℕ). Fits z.0 c.args.piece.now.stripe z.1 q.0) (λ i. ((sym same.1 i).plan, sym n.0 i)) f, (let a = n.0 in let b = n.1 in omega arith)),
+      (q.0, ready _ _ _ _ _ _ x q.0 h.1 same.0 same.1 q.1 n.0, subst (λ (z : Chunks × ℕ). Fits z.0 c.args.piece.now.stripe z.1 q.0) (λ i. ((sym same.1 i).plan, sym n.0 i)) f, subst (λ (v : PassView). IsUnchanged v.taken q.0) (sym same.1) (is_pointing _ x q.0 _ h.3 n.3), (let a = n.0 in let b = n.1 in omega arith)),
     )
 
 pub put_back-requires : goal.put_back-requires
@@ -33,7 +33,7 @@ put_back-requires c = let h = c.requires.held in let x = h.0 in let e = c.in-Fai
     let f = subst (λ (z : Stripe). Fits c.args.seat.now.me.0.plan c.args.piece.now.stripe (length x.names) z) (sym n.1) h.2 in (
       plan.1.stripe,
       (let a = n.0 in let few = fits_few _ _ _ _ h.2 in let l = plan.0.chunks in let z : c.in-Failed.count < 4294967296 = omega arith in z),
-      (q.0, ready _ _ _ _ _ _ x q.0 h.1 same.0 same.1 q.1 n.0, subst (λ (z : Chunks × ℕ). Fits z.0 c.args.piece.now.stripe z.1 q.0) (λ i. ((sym same.1 i).plan, sym n.0 i)) f),
+      (q.0, ready _ _ _ _ _ _ x q.0 h.1 same.0 same.1 q.1 n.0, subst (λ (z : Chunks × ℕ). Fits z.0 c.args.piece.now.stripe z.1 q.0) (λ i. ((sym same.1 i).plan, sym n.0 i)) f, subst (λ (v : PassView). IsUnchanged v.taken q.0) (sym same.1) (is_unchanged x q.0 _ h.3 n.1)),
     )
 
 pub returns-in-Added : goal.returns-in-Added

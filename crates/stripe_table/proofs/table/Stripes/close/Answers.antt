@@ -30,6 +30,9 @@ returns-clause-busy c = (last c).3
 pub returns-clause-sum : goal.returns-clause-sum
 returns-clause-sum c = (last c).4
 
+pub returns-clause-once : goal.returns-clause-once
+returns-clause-once c = (last c).5
+
 pub returns-clause-names : goal.returns-clause-names
 returns-clause-names c = λ t lt. long_there c.args.self.plan c.gather.result.items t _ ((last c).1 t lt)
 
