@@ -3,8 +3,8 @@
 //!
 //! It promises that the text is byte for byte that of the definition, a filter over the structure's items in section
 //! order (DWARF 5, section 3.3) and over the function symbols in symbol order. Below are `scope_find`,
-//! `dwarf_inline`, `dwarf_line`, `dwarf_forms`, `elf_image`, `view_tables`, `address_ranges`, `scope_types`,
-//! `tree_types` and `prof_bytes`.
+//! `dwarf_inline`, `dwarf_line`, `dwarf_forms`, `elf_image`, `address_ranges`, `scope_types`, `tree_types` and
+//! `prof_bytes`.
 #![tactic(auto)]
 
 mod inlines;
