@@ -34,16 +34,16 @@ unit_line_table info lines i =
     (option_and_then (λ e. e.context.stmt_list) (unit_entry info i))
 
 -- a file and a line of a table, where both table and line are there; without a number of the file it is file 0
-abbrev pub row_of : Option ℕ → Option ℕ × Option ℕ → Option LineId
-row_of (Some table) (file, Some line) = Some (Row table (unwrap_or file 0) line)
-row_of table (file, line) = None
+abbrev pub call_row : Option ℕ → Option ℕ × Option ℕ → Option LineId
+call_row (Some table) (file, Some line) = Some (Row table (unwrap_or file 0) line)
+call_row table (file, line) = None
 
 -- where an inlined subroutine is called: the line, else the start of its first range that counts; nothing where none
 -- counts
 abbrev pub call_at : DebugInfo → Lines → ℕ → List (ℕ × ℕ) → Option LineId
 call_at info lines i [] = None
 call_at info lines i (first ∷ others) =
-    Some (unwrap_or (row_of (unit_line_table info lines i) (call_site_of info i)) (Address first.0))
+    Some (unwrap_or (call_row (unit_line_table info lines i) (call_site_of info i)) (Address first.0))
 
 -- ---- items
 

@@ -3,7 +3,7 @@ ghost use Rattle.std.specs.Prelude.{◌≡◌, ◌<◌, ◌++◌, ◌∷◌, [],
 ghost use Rattle.std.specs.List.{flat_map};
 ghost use Rattle.dwarf_inline.specs.Links.{entry_name, identity, identity_offset, item_entries};
 ghost use Rattle.dwarf_inline.specs.Nesting.{item_after};
-ghost use Rattle.dwarf_inline.specs.Structure.{counted_ranges, unit_line_table, row_of, call_at, ranges_before};
+ghost use Rattle.dwarf_inline.specs.Structure.{counted_ranges, unit_line_table, call_row, call_at, ranges_before};
 ghost use Rattle.dwarf_inline.specs.Structure.{item_of};
 
 use crate::links::is_inlined;
@@ -72,8 +72,8 @@ fn table_of(sources: Sources<'_, '_, '_, '_>, index: u32) -> Option<u32>
     None
 }
 
-fn row_of(table: Option<u32>, call: (Option<u32>, Option<u32>)) -> Option<LineId>
-    ensures { result ≡ row_of table call }
+fn call_row(table: Option<u32>, call: (Option<u32>, Option<u32>)) -> Option<LineId>
+    ensures { result ≡ call_row table call }
 {
     let (file, line) = call;
     match (table, line) {
@@ -94,7 +94,7 @@ fn call_at(sources: Sources<'_, '_, '_, '_>, index: u32, ranges: &[(u32, u32)]) 
 {
     match ranges {
         [] => None,
-        [first, ..] => match row_of(table_of(sources, index), sources.info.call(index)) {
+        [first, ..] => match call_row(table_of(sources, index), sources.info.call(index)) {
             Some(row) => Some(row),
             None => Some(LineId::Address(first.0)),
         },
