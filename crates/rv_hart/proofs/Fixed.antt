@@ -1,28 +1,24 @@
 -- What may not be written does not change.
-use Rattle.std.proofs.Common.{◌≡◌, ℕ, zero, suc, ◌+◌, ◌*◌, ◌-◌, ◌/◌, ◌%◌, ◌^◌, ◌<◌, ◌≤◌, ◌==◌, ◌&&◌, Bool, true, false, not, cond, List, map, length, slice_index, Option, Some, None, option_map, Result, Ok, Err, IfOk, OnErr, nat_le, nat_lt, int_lt, refl, sym, ap, ap₂, subst, ◌∙◌, arith}
+use Rattle.std.proofs.Common.{◌≡◌, ℕ, zero, suc, ◌+◌, ◌*◌, ◌-◌, ◌%◌, ◌^◌, ◌<◌, ◌≤◌, ◌==◌, ◌&&◌, Bool, true, false, cond, List, map, length, slice_index, Some, None, option_map, Result, Ok, Err, IfOk, OnErr, nat_le, nat_lt, refl, sym, ap, ap₂, subst, ◌∙◌, arith}
 use Rattle.std.specs.List.{range_with_len}
 use Rattle.std.proofs.lemmas.Bool.{leb-true, ltb-true, and_parts}
 use Rattle.std.proofs.lemmas.List.{ext_get_or}
 use Rattle.std.proofs.lemmas.List.FromFn.{get_or-map-range_with_len, length-map-range_with_len}
 use Rattle.prof_bytes.specs.declared.fail.Memory.{Memory}
-use Rattle.prof_bytes.specs.Number.{number_bytes, number_in, word_sum}
+use Rattle.prof_bytes.specs.Number.{number_in}
 use Rattle.elf_image.specs.declared.part.Segment.{Segment}
 use Rattle.elf_image.specs.declared.elf.TheConstants.{PF_W}
-use Rattle.rv_table.specs.declared.inst.Op.{Op}
-use Rattle.rv_table.specs.declared.inst.Op.TheVariants as ops
 use Rattle.rv_table.specs.declared.inst.Inst.{Inst}
-use Rattle.rv_table.specs.Fields.{sign_extended}
 use Rattle.rv_table.specs.Table.{decoded}
 use Rattle.rv_memory.specs.AddressSpace.{AddressSpace, byte_at, byte_after, fetched_at, is_fetched_from, may, may_all, region_at, stored, written}
 use Rattle.rv_memory.proofs.Bytes.{byte-each}
 use Rattle.rv_memory.proofs.Contiguous.{all-each}
 use Rattle.rv_hart.specs.declared.outcome.Stepped.{Stepped}
-use Rattle.rv_hart.specs.declared.outcome.Cause.TheVariants as cause
 use Rattle.rv_hart.specs.declared.decoded_code.DecodedCode.{DecodedCode}
-use Rattle.rv_hart.specs.Arithmetic.{signed}
 use Rattle.rv_hart.specs.Running.{after_steps, Ran}
-use Rattle.rv_hart.specs.Step.{State, rs1_value, rs2_value, address, operand, trapped, retired, jumps, continues_at, branches, loads, finishes_store, executed, fetched, after_fetch, step_of}
+use Rattle.rv_hart.specs.Step.{State, finishes_store, step_of}
 use Rattle.rv_hart.specs.private.Decoding.{KeepsFixed, IsDecodedAt, IsCode, AreCode}
+use Rattle.rv_hart.proofs.StepCases.{HoldsOfEnds, of_step}
 
 pub fixed-same : (m : AddressSpace) → KeepsFixed m m
 fixed-same m = record { regions = refl; bytes = λ at low fixed. refl }
@@ -72,62 +68,26 @@ store-fixed m n start bytes (Err e) ok err = subst (KeepsFixed m) (sym err) (fix
 abbrev pub FixedBy : State → State × Stepped → Type 0
 FixedBy s r = KeepsFixed s.memory r.0.memory
 
-jump : (inst : Inst) (target : ℕ) (s : State) → FixedBy s (jumps inst target s)
-jump inst target s =
-    elim (target % 4 == 0) as (λ b. FixedBy s (cond b (retired inst (word_sum s.pc 4) target s) (trapped cause.Target s))) [ true ↦ fixed-same s.memory | false ↦ fixed-same s.memory ]
-
-branch : (inst : Inst) (test : Bool) (s : State) → FixedBy s (branches inst test s)
-branch inst true s =
-    elim (word_sum s.pc inst.imm % 4 == 0) as (λ b. FixedBy s (cond b (continues_at (word_sum s.pc inst.imm) s) (trapped cause.Target s))) [ true ↦ fixed-same s.memory | false ↦ fixed-same s.memory ]
-branch inst false s = fixed-same s.memory
-
-load : (inst : Inst) (number : Option ℕ) (s : State) → FixedBy s (loads inst number s)
-load inst None s = fixed-same s.memory
-load inst (Some n) s = fixed-same s.memory
-
 put : (answer : Bool × AddressSpace) (s : State) → KeepsFixed s.memory answer.1 → FixedBy s (finishes_store answer s)
 put (true, m) s kept = kept
 put (false, m) s kept = fixed-same s.memory
 
-store : (inst : Inst) (size : ℕ) (s : State) → FixedBy s (finishes_store (stored s.memory (address inst s) (number_bytes size (rs2_value inst s))) s)
-store inst size s =
-    put (stored s.memory (address inst s) (number_bytes size (rs2_value inst s))) s (stored-fixed s.memory (address inst s) (number_bytes size (rs2_value inst s)))
-
-by_operation : (op : Op) (inst : Inst) (s : State) → FixedBy s (executed op inst s)
-by_operation ops.Illegal inst s = fixed-same s.memory
-by_operation ops.Lui inst s = fixed-same s.memory
-by_operation ops.Auipc inst s = fixed-same s.memory
-by_operation ops.Jal inst s = jump inst (word_sum s.pc inst.imm) s
-by_operation ops.Jalr inst s = jump inst (word_sum (rs1_value inst s) inst.imm / 2 * 2) s
-by_operation ops.Beq inst s = branch inst (rs1_value inst s == rs2_value inst s) s
-by_operation ops.Bne inst s = branch inst (not (rs1_value inst s == rs2_value inst s)) s
-by_operation ops.Blt inst s = branch inst (int_lt (signed (rs1_value inst s)) (signed (rs2_value inst s))) s
-by_operation ops.Bge inst s = branch inst (not (int_lt (signed (rs1_value inst s)) (signed (rs2_value inst s)))) s
-by_operation ops.Bltu inst s = branch inst (nat_lt (rs1_value inst s) (rs2_value inst s)) s
-by_operation ops.Bgeu inst s = branch inst (not (nat_lt (rs1_value inst s) (rs2_value inst s))) s
-by_operation ops.Lb inst s = load inst (option_map (sign_extended 8) (operand inst 1 s)) s
-by_operation ops.Lh inst s = load inst (option_map (sign_extended 16) (operand inst 2 s)) s
-by_operation ops.Lw inst s = load inst (operand inst 4 s) s
-by_operation ops.Lbu inst s = load inst (operand inst 1 s) s
-by_operation ops.Lhu inst s = load inst (operand inst 2 s) s
-by_operation ops.Sb inst s = store inst 1 s
-by_operation ops.Sh inst s = store inst 2 s
-by_operation ops.Sw inst s = store inst 4 s
-by_operation ops.Fence inst s = fixed-same s.memory
-by_operation ops.Ecall inst s = fixed-same s.memory
-by_operation ops.Ebreak inst s = fixed-same s.memory
-by_operation _ inst s = fixed-same s.memory
-
-by_word : (word : Option ℕ) (s : State) → FixedBy s (after_fetch word s)
-by_word None s = fixed-same s.memory
-by_word (Some word) s = by_operation (decoded word).op (decoded word) s
+ends : (s : State) → HoldsOfEnds (FixedBy s) s
+ends s = record {
+  trap = λ why. fixed-same s.memory;
+  call = fixed-same s.memory;
+  stop = fixed-same s.memory;
+  result = λ inst value next. fixed-same s.memory;
+  going_on = λ next. fixed-same s.memory;
+  store = λ at bytes. put (stored s.memory at bytes) s (stored-fixed s.memory at bytes);
+}
 
 steps-fixed : (count : ℕ) (s : State) → KeepsFixed s.memory (after_steps count s).memory
 unfolding after_steps
 steps-fixed zero s = fixed-same s.memory
 steps-fixed (suc count) s =
     fixed-twice s.memory (after_steps count s).memory (step_of (after_steps count s)).0.memory (steps-fixed count s)
-    (by_word (fetched (after_steps count s)) (after_steps count s))
+    (of_step (FixedBy (after_steps count s)) (after_steps count s) (ends (after_steps count s)))
 
 pub ran-fixed : (count : ℕ) (s t : State) → Ran count s t → KeepsFixed s.memory t.memory
 ran-fixed count s t ran = subst (λ (u : State). KeepsFixed s.memory u.memory) (sym ran.state) (steps-fixed count s)
