@@ -12,6 +12,8 @@ BROWSER = shutil.which("chromium") or shutil.which("chromium-browser") or shutil
 WORDS = ["--headless", "--no-sandbox", "--disable-gpu", "--hide-scrollbars", "--disable-dev-shm-usage",
          "--remote-debugging-pipe", "--no-first-run", "--disable-extensions", "--disable-background-networking"]
 
+MOST_SECONDS = 60
+
 LIGHT, DARK = "light", "dark"
 DESKTOP, TABLET, PHONE = (1280, 900), (768, 1024), (390, 844)
 
@@ -84,6 +86,8 @@ class Browser:
         start = time.monotonic()
         self.ask("Page.navigate", url=page.as_uri() + fragment)
         while not self.run("return typeof hpc !== 'undefined';"):
+            if time.monotonic() - start > MOST_SECONDS:
+                raise RuntimeError(f"{page}: no page of an export")
             time.sleep(0.05)
         self.run("await hpc.ready; await new Promise(done => requestAnimationFrame(() => setTimeout(done)));")
         return time.monotonic() - start

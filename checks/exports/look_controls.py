@@ -35,7 +35,7 @@ def look_at_controls(window, name, page, profile, period):
     window.open(page)
     look_at_hot_path(window, name, page)
     look_at_filters(window, name, profile, period)
-    look_at_around(window, name, profile, period)
+    look_at_sandwich(window, name, profile, period)
     look_at_least(window, name)
     look_at_order(window, name)
     look_at_following(window, name)
@@ -117,13 +117,13 @@ def look_at_file_filters(window, name, profile, period):
     window.run("view.setFilters([]);")
 
 
-def look_at_around(window, name, profile, period):
+def look_at_sandwich(window, name, profile, period):
     """Callers and callees of one procedure in one table: the parts of the callers and the callees table."""
     for of in window.run("return [...procedureGroups(view.samples).keys()].slice(0, 4);"):
         selected_procedure(window, of)
         window.press("a")
-        rows = window.run("return [view.kind, view.procedure, hpc.table('around', 2)];")
-        same(f"{name}: a goes to the callers and callees", rows[:2], ["around", of])
+        rows = window.run("return [view.kind, view.procedure, hpc.table('sandwich', 2)];")
+        same(f"{name}: a goes to the callers and callees", rows[:2], ["sandwich", of])
         wanted = window.run(f"""
           const rows = kind => {{
             const all = hpc.table(kind, 1), name = profile.procedures[{of}];

@@ -8,17 +8,8 @@ class Filters {
         document.getElementById(`${what}-${kind}`).onclick = () => this.add(what, kind);
   }
 
-  // What the selected row is of, in this kind: -1 where it has none.
-  target(kind) {
-    const row = view.grid.rows[view.grid.at];
-    if (!row) return -1;
-    if (kind === "procedure") return row.procedure === undefined ? -1 : row.procedure;
-    if (row.file !== undefined) return row.file;
-    return row.site === undefined ? -1 : fileOf(row.site);
-  }
-
   add(what, kind) {
-    const of = this.target(kind);
+    const of = view.selected[kind];
     const isThere = view.shown.filters.some(filter => filterText(filter) === filterText({what, kind, of}));
     if (of >= 0 && !isThere) view.setFilters([...view.shown.filters, {what, kind, of}]);
   }
@@ -30,7 +21,7 @@ class Filters {
       const button = document.createElement("button"), {what, kind, of} = filter;
       const name = kind === "procedure" ? profile.procedures[of] : profile.files[of];
       button.type = "button";
-      const short = shortened(kind === "file" ? baseName(name) : name, 30);
+      const short = shortened(kind === "file" ? profile.shortFile(of) : name, 30);
       button.textContent = `${what === "focus" ? "Focus" : "Hidden"}: ${short} ✕`;
       button.title = name;
       button.setAttribute("aria-label", `${what === "focus" ? "focus on" : "hidden"} ${kind} ${name}: take off`);

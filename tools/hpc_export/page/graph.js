@@ -11,14 +11,14 @@ class Graph {
   label(i) { return i === this.count ? "all samples" : this.labelOf(i); }
   shown(i) { return i === this.count ? "all samples" : this.shownOf(i); }
 
-  // Inclusive sums, of own samples; parents stand before their children. Siblings by their places, or by cost.
-  fill(own, isByCost) {
+  // Inclusive sums, of own samples; parents stand before their children.
+  fill(own) {
     const sums = this.inclusive = new Uint32Array(this.count + 1);
     sums.set(own);
     for (let i = this.count - 1; i >= 0; i--) sums[this.above(i)] += sums[i];
-    this.order(isByCost);
   }
 
+  // Siblings by their places, or by cost.
   order(isByCost) {
     const {first, next, count, inclusive} = this;
     first.fill(-1);

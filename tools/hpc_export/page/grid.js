@@ -1,8 +1,8 @@
 // The table on the page: rows that unfold and sort, of which those are drawn that are seen.
 
 const HEIGHT = 24, PART = 500000;
-// Widths of the table from which it has all columns, and whole figures.
-const WIDE = 760, MEDIUM = 540;
+// Widths of the table from which it has all columns, and whole figures; of a figure's column and of a name at least.
+const WIDE = 760, MEDIUM = 540, LEAST_FIGURE = 104, LEAST_NAME = 190;
 
 class Grid {
   constructor() {
@@ -28,7 +28,7 @@ class Grid {
     this.rows = this.sorted(this.table.make(samples), this.table.inOrder).map(row => ({...row, level: 0}));
     this.at = 0;
     this.header();
-    if (kind === "around") for (let place = this.rows.length - 1; place >= 0; place--) this.unfold(place);
+    if (kind === "sandwich") for (let place = this.rows.length - 1; place >= 0; place--) this.unfold(place);
     // Who calls, and who is called, is asked of one procedure: nothing is unfolded before.
     if (kind === "top" || kind === "flat") this.hotPath(0, false);
     this.at = 0;
@@ -133,7 +133,8 @@ class Grid {
     if (moves) this.choose(place);
   }
 
-  // Unfolds and chooses the row to which these orders lead, the outermost first, as far as there is one.
+  // Unfolds and chooses the row to which these orders lead, the outermost first, as far as there is one. Gives whether
+  // there is any.
   follow(orders, leads = false) {
     let place = -1, from = 0;
     for (const [level, order] of orders.entries()) {
@@ -146,6 +147,7 @@ class Grid {
       from = k + 1;
     }
     if (place >= 0) this.choose(place, leads);
+    return place >= 0;
   }
 
   // The orders that lead to a row.
@@ -156,6 +158,11 @@ class Grid {
       found.unshift(this.rows[place].order);
     }
     return found;
+  }
+
+  unselect() {
+    this.at = -1;
+    this.draw();
   }
 
   // Chooses a row; the graph and the source follow where this is what leads.
@@ -181,16 +188,35 @@ class Grid {
     const from = Math.max(0, Math.floor(element.scrollTop / HEIGHT) - 4);
     const to = Math.min(shown, Math.ceil((element.scrollTop + element.clientHeight) / HEIGHT) + 4);
     element.setAttribute("aria-rowcount", this.rows.length + 1);
-    this.isNarrow = element.clientWidth < MEDIUM;
-    element.classList.toggle("narrow", this.isNarrow);
-    element.classList.toggle("medium", !this.isNarrow && element.clientWidth < WIDE);
-    this.nameWidth = this.head.firstElementChild.clientWidth;
-    const elements = [];
+    this.fit();
+    const elements = shown ? [] : [this.note()];
     for (let place = from; place < to; place++) elements.push(this.rowElement(place));
     body.replaceChildren(...elements);
     const chosen = document.getElementById(`row-${this.at}`);
     if (chosen) element.setAttribute("aria-activedescendant", chosen.id);
     else element.removeAttribute("aria-activedescendant");
+  }
+
+  // The columns have room for the greatest figure. Where that leaves too little for names, figures are short.
+  fit() {
+    const {element} = this, width = element.clientWidth, isWide = width >= WIDE;
+    const figures = Math.max(LEAST_FIGURE, 9 * figure(this.samples.total).length + 22);
+    this.isNarrow = width < MEDIUM;
+    this.isShort = this.isNarrow || width - (isWide ? 3 : 2) * figures - 90 < LEAST_NAME;
+    element.classList.toggle("narrow", this.isNarrow);
+    element.classList.toggle("medium", !this.isNarrow && !isWide);
+    element.style.setProperty("--figure", `${this.isShort ? LEAST_FIGURE : figures}px`);
+    this.nameWidth = this.head.firstElementChild.clientWidth;
+  }
+
+  // Why there is no row.
+  note() {
+    const note = document.createElement("div"), name = profile.procedures[view.procedure];
+    note.className = "note";
+    note.textContent = !this.samples.total ? "No samples here." : this.kind === "sandwich" && !this.least
+      ? `${name} is inlined wherever it has samples: callers and callees are those of procedures that are called.`
+      : "No row has this share.";
+    return note;
   }
 
   rowElement(place) {
@@ -203,9 +229,24 @@ class Grid {
     element.setAttribute("aria-rowindex", place + 2);
     element.setAttribute("aria-selected", place === this.at);
     if (row.has) element.setAttribute("aria-expanded", !!row.open);
+    element.setAttribute("aria-label", this.spoken(row));
+    element.classList.toggle("pointed", view.isPointed(row));
     const cells = this.table.columns.map((column, k) => this.valueCell(row[VALUE[column]], column, k));
     element.append(this.nameCell(row), ...cells);
     return element;
+  }
+
+  // A row as it is read aloud: its name, and its figures with what they are.
+  spoken(row) {
+    const {total} = this.samples, figures = this.table.columns.map(column => column.endsWith("share")
+      ? `${share(row[VALUE[column]], total)} percent` : `${column} ${figure(row[VALUE[column]])}`);
+    return [row.name, ...figures].join(", ");
+  }
+
+  // Marks the rows of what the pointer is on in the graph.
+  point() {
+    for (const element of this.body.querySelectorAll(".row"))
+      element.classList.toggle("pointed", view.isPointed(this.rows[Number(element.id.slice(4))]));
   }
 
   nameCell(row) {
@@ -237,8 +278,8 @@ class Grid {
       cell.style.setProperty("--part", `${100 * value / (total || 1)}%`);
       cell.textContent = share(value, total);
     } else {
-      cell.textContent = this.isNarrow ? shortFigure(value) : figure(value);
-      if (this.isNarrow) cell.title = figure(value);
+      cell.textContent = this.isShort ? shortFigure(value) : figure(value);
+      if (this.isShort) cell.title = figure(value);
     }
     return cell;
   }
@@ -264,9 +305,9 @@ class Grid {
     if (event.target !== this.element || event.ctrlKey || event.metaKey || event.altKey) return;
     const place = this.at, row = this.rows[place];
     const page = Math.max(1, Math.floor(this.element.clientHeight / HEIGHT) - 2);
-    if (!row) return;
     const step = {ArrowDown: 1, ArrowUp: -1, PageDown: page, PageUp: -page, Home: -Infinity, End: Infinity}[event.key];
     if (step !== undefined) this.choose(place + step);
+    else if (!row) return;
     else if (event.key === "ArrowRight") { if (row.open) this.choose(place + 1); else this.turn(place); }
     else if (event.key === "ArrowLeft") {
       if (row.open) this.turn(place);

@@ -152,6 +152,7 @@ class Icicle {
     this.canvas.title = node >= 0 ? this.graph.label(node) : "";
     this.tell(node >= 0 ? node : this.selected);
     this.draw();
+    view.grid.point();
   }
 
   describe(node) {
@@ -237,11 +238,14 @@ class Icicle {
     } else if (event.key === "Enter" || event.key === " ") {
       this.zoom(node);
       this.select(node);
-    } else if (event.key === "Escape") {
-      const to = graph.above(this.root);
-      this.zoom(to < 0 ? graph.count : to);
-      this.select(this.root);
     } else return;
     event.preventDefault();
+  }
+
+  // To what is above, and selects it.
+  zoomOut() {
+    const to = this.graph.above(this.root);
+    this.zoom(to < 0 ? this.graph.count : to);
+    this.select(this.root);
   }
 }

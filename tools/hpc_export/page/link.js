@@ -28,9 +28,9 @@ class Link {
       order: view.isByCost ? "cost" : undefined,
       zoom: node(icicle.root), node: node(icicle.selected),
       table: view.kind === "top" ? undefined : view.kind,
-      of: view.kind === "around" ? view.procedure : undefined,
+      of: view.kind === "sandwich" ? view.procedure : undefined,
       sort: column === "inclusive" && down ? undefined : `${column}.${down ? 1 : 0}`,
-      row: grid.at ? JSON.stringify(grid.orders(grid.at)) : undefined,
+      row: grid.at > 0 ? JSON.stringify(grid.orders(grid.at)) : undefined,
       search: view.search.words || undefined,
       least: view.percent === profile.minimum ? undefined : view.percent,
       source: view.isSourceMoved ? view.isSourceShown ? `${source.file}.${source.at}` : "off" : undefined,
@@ -76,11 +76,12 @@ class Link {
     const {icicle, grid, source} = view, isNode = at => at >= 0 && at < icicle.graph.count;
     if (isNode(number("zoom"))) icicle.zoom(number("zoom"));
     if (isNode(number("node"))) icicle.select(number("node"), {speaks: false, leads: false});
-    const [file, line] = (words.source || "").split(".").map(Number);
+    const [file, line] = (words.source || "off").split(".").map(Number);
     if (words.source !== undefined) view.setSource(words.source !== "off");
     let orders = [];
     try { orders = JSON.parse(words.row || "[]"); } catch (error) { orders = []; }
     if (Array.isArray(orders) && orders.length) grid.follow(orders);
+    else if (isNode(number("node"))) view.follow(number("node"));
     if (file >= 0) source.goTo(file, line, false);
   }
 }

@@ -33,7 +33,7 @@ const hpc = window.hpc = {
   table(kind, depth = Infinity) {
     const rows = [], value = kind === "top" ? "frame" : "exclusive", total = view.samples.total;
     const byCost = (a, b) => b.inclusive - a.inclusive || inOrder(a, b);
-    const sorted = list => list.sort(kind === "top" || kind === "around" ? inOrder : byCost).reverse();
+    const sorted = list => list.sort(kind === "top" || kind === "sandwich" ? inOrder : byCost).reverse();
     const waiting = sorted(TABLES[kind].make(view.samples)).map(row => [0, row]);
     while (waiting.length) {
       const [level, row] = waiting.pop();

@@ -16,11 +16,13 @@ class Edge {
     this.set(Number(getComputedStyle(document.documentElement).getPropertyValue(variable)), false);
   }
 
+  // Where the panes are below one another on a page that scrolls, a share is one of the window's height.
   shareAt(event) {
     const before = this.element.previousElementSibling.getBoundingClientRect();
     const after = this.element.nextElementSibling.getBoundingClientRect();
-    return this.axis === "y" ? (event.clientY - before.top) / (after.bottom - before.top)
-      : (event.clientX - before.left) / (after.right - before.left);
+    const isOfWindow = getComputedStyle(this.element.parentElement).display === "block";
+    if (this.axis === "y") return (event.clientY - before.top) / (isOfWindow ? innerHeight : after.bottom - before.top);
+    return (event.clientX - before.left) / (after.right - before.left);
   }
 
   set(value, moves = true) {

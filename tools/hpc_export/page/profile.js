@@ -42,7 +42,12 @@ class Profile {
   // The same without the folder.
   shortPlace(i) {
     const f = this.lineFile[i];
-    return f < 0 ? address(this.line[i]) : `${baseName(this.files[f])}:${this.line[i]}`;
+    return f < 0 ? address(this.line[i]) : `${this.shortFile(f)}:${this.line[i]}`;
+  }
+
+  shortFile(file) {
+    this.shortFiles = this.shortFiles || shortFiles(this.files);
+    return this.shortFiles[file];
   }
 
   // As the printed tables have it.
@@ -66,10 +71,12 @@ class Profile {
     }
   }
 
+  // What a call leads to where it has samples, the costliest first.
   callees(i) {
-    const called = [];
+    const nodes = [], {inclusive} = view.samples;
     for (let node = i + 1; node < this.end[i]; node = this.end[node])
-      if (this.scope[node] <= INLINE) called.push(this.procedures[this.operand[node]]);
+      if (this.scope[node] <= INLINE && inclusive[node]) nodes.push(node);
+    const called = nodes.sort((a, b) => inclusive[b] - inclusive[a]).map(node => this.procedures[this.operand[node]]);
     return called.length > 2 ? `${called[0]} and ${called.length - 1} more` : called.join(" and ") || "what is hidden";
   }
 
@@ -118,7 +125,20 @@ function sameNames(names) {
 }
 
 const address = a => "0x" + a.toString(16).padStart(8, "0");
-const baseName = path => path.slice(path.lastIndexOf("/") + 1);
+
+// Names without their folders. Of files that have one name then, so many folders stay that they differ.
+function shortFiles(files) {
+  const cut = (path, folders) => path.split("/").slice(-1 - folders).join("/"), found = files.map(path => cut(path, 0));
+  for (let folders = 1; folders < 64; folders++) {
+    const paths = new Map();
+    files.forEach((path, k) => paths.set(found[k], (paths.get(found[k]) || new Set()).add(path)));
+    const alike = files.map((_, k) => paths.get(found[k]).size > 1);
+    if (!alike.includes(true)) break;
+    files.forEach((path, k) => { if (alike[k]) found[k] = cut(path, folders); });
+  }
+  return found;
+}
+
 const grouped = new Intl.NumberFormat("en");
 const figure = samples => grouped.format(samples * profile.period);
 

@@ -104,7 +104,7 @@ function callees(samples) {
 }
 
 // One procedure with its callers and its callees.
-function around(samples, of) {
+function sandwich(samples, of) {
   const nodes = procedureGroups(samples).get(of);
   if (!nodes) return [];
   const {inclusive, frame} = samples, inner = nodes.filter(node => caller(node) >= 0), below = called(nodes, inclusive);
@@ -119,6 +119,9 @@ function around(samples, of) {
   ];
 }
 
+// Lines by their numbers, addresses behind them.
+const lineOrder = node => profile.line[node] + (profile.lineFile[node] < 0 ? 4294967296 : 0);
+
 // Files by their names, their procedures, and lines; a frame's place is its call or statement.
 function flat({exclusive, inclusive}) {
   const {scope, operand, procNode, lineFile, line, files, procedures, sameFile} = profile, encoder = new TextEncoder();
@@ -130,7 +133,7 @@ function flat({exclusive, inclusive}) {
   const procedureAt = node => procNode[node] < 0 ? -1 : operand[procNode[node]];
   const lines = group => split(group, node => lineFile[node] < 0 ? -1 - line[node] : line[node], node => ({
     name: lineFile[node] < 0 ? address(line[node]) : `line ${line[node]}`, isPlace: true, has: false, node,
-    procedure: procedureAt(node), order: lineFile[node] < 0 ? 4294967296 + line[node] : line[node]}));
+    procedure: procedureAt(node), order: lineOrder(node)}));
   const procs = group => split(group, procedureAt, (node, group) => ({
     name: procedures[procedureAt(node)] || "<hidden procedure>", order: procedureAt(node), procedure: procedureAt(node),
     node: Math.max(procNode[node], 0), has: true, make: () => lines(group)}));
@@ -138,7 +141,7 @@ function flat({exclusive, inclusive}) {
     const name = lineFile[node] < 0 ? "<unknown file>" : files[lineFile[node]];
     // In the order of the name's bytes.
     const order = Array.from(encoder.encode(name), byte => String.fromCharCode(byte)).join("");
-    return {name, shown: baseName(name), order, file: lineFile[node] < 0 ? -1 : sameFile[lineFile[node]], has: true,
+    return {name, shown: lineFile[node] < 0 ? name : profile.shortFile(lineFile[node]), order, file: lineFile[node] < 0 ? -1 : sameFile[lineFile[node]], has: true,
       make: () => procs(group)};
   });
 }

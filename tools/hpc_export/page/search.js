@@ -24,21 +24,29 @@ class Search {
     if (found === undefined) this.cache.set(key, found = this.matches(profile.label(i)));
     return found;
   }
-  // Which nodes of a graph match, how many with samples, and the samples at or below them, each once.
+  // Which nodes of a graph match, how many with samples, and the samples at or below them, each once. Where no procedure
+  // of a graph without places matches, the places are searched, and what they are in is marked.
   of(graph) {
     if (!this.words || this.wrong) return null;
+    const found = this.within(graph);
+    if (found.nodes || !graph.nodeOf) return found;
+    const places = this.within(view.graphOf("scope"));
+    for (let i = 0; i < profile.count; i++) if (places.matched[i]) found.matched[graph.nodeOf[i]] = 1;
+    return {...found, nodes: places.nodes, samples: places.samples, arePlaces: true};
+  }
+
+  within(graph) {
     const matched = new Uint8Array(graph.count + 1), within = new Uint8Array(graph.count + 1);
-    let nodes = 0, samples = 0, first = -1;
+    let nodes = 0, samples = 0;
     for (let i = 0; i < graph.count; i++) {
       const above = within[graph.above(i)];
       if (graph.inclusive[i] && (graph.isFaint(i) ? this.matchesPlace(i) : this.matches(graph.label(i)))) {
         matched[i] = 1;
         nodes++;
-        if (first < 0) first = i;
         if (!above) samples += graph.inclusive[i];
       }
       within[i] = above | matched[i];
     }
-    return {matched, nodes, samples, first};
+    return {matched, nodes, samples};
   }
 }

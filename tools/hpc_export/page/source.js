@@ -12,6 +12,8 @@ class Source {
     this.lines = [];
     this.element.addEventListener("scroll", () => this.draw());
     this.element.addEventListener("keydown", event => this.key(event));
+    document.getElementById("costly-previous").onclick = () => this.goToCostly(-1);
+    document.getElementById("costly-next").onclick = () => this.goToCostly(1);
     this.body.addEventListener("click", event => {
       const line = event.target.closest(".line");
       if (line) this.goTo(this.file, Number(line.dataset.line));
@@ -35,7 +37,7 @@ class Source {
     const own = new Map([...this.nodes].map(([file, group]) => [file, sumOf(group, samples.exclusive)]));
     const chosen = [...this.nodes.keys()].sort((a, b) => own.get(b) - own.get(a));
     if (!this.nodes.has(this.file)) this.file = chosen.length ? chosen[0] : -1;
-    chooser("file", chosen.map(file => [file, baseName(files[file]) + (this.textAt.has(file) ? "" : " (no text)")]),
+    chooser("file", chosen.map(file => [file, profile.shortFile(file) + (this.textAt.has(file) ? "" : " (no text)")]),
       this.file, file => this.goTo(Number(file)));
     this.isCounted = true;
     this.count();
@@ -64,9 +66,9 @@ class Source {
     document.getElementById("file").title = profile.files[file];
     this.at = line || this.costliest();
     const place = Math.max(0, this.lines.indexOf(this.at)), {element} = this, top = place * HEIGHT;
+    const seen = element.clientHeight - document.getElementById("lines-head").offsetHeight;
     this.body.style.height = `${this.lines.length * HEIGHT}px`;
-    if (top < element.scrollTop || top + 2 * HEIGHT > element.scrollTop + element.clientHeight)
-      element.scrollTop = top - element.clientHeight / 3;
+    if (top < element.scrollTop || top + 2 * HEIGHT > element.scrollTop + seen) element.scrollTop = top - seen / 3;
     this.draw();
     if (leads) view.changed();
   }
@@ -83,7 +85,7 @@ class Source {
     body.style.height = `${lines.length * HEIGHT}px`;
     const from = Math.max(0, Math.floor(element.scrollTop / HEIGHT) - 4);
     const to = Math.min(lines.length, Math.ceil((element.scrollTop + element.clientHeight) / HEIGHT) + 4);
-    element.setAttribute("aria-rowcount", lines.length);
+    element.setAttribute("aria-rowcount", lines.length + 1);
     body.replaceChildren(...lines.slice(from, to).map((line, k) => this.lineElement(line, from + k)));
     if (document.getElementById(`line-${this.at}`)) element.setAttribute("aria-activedescendant", `line-${this.at}`);
     else element.removeAttribute("aria-activedescendant");
@@ -96,8 +98,9 @@ class Source {
     element.dataset.line = line;
     element.style.top = `${place * HEIGHT}px`;
     element.setAttribute("role", "row");
-    element.setAttribute("aria-rowindex", place + 1);
+    element.setAttribute("aria-rowindex", place + 2);
     element.setAttribute("aria-selected", line === this.at);
+    element.setAttribute("aria-label", this.spoken(line, all, own));
     const figures = [[all, "inclusive"], [own, "exclusive"]].map(([value, what]) => {
       const cell = this.cell("figure share", value ? share(value, total) : "");
       cell.style.setProperty("--part", `${100 * value / (total || 1)}%`);
@@ -108,6 +111,13 @@ class Source {
     return element;
   }
 
+  // A line as it is read aloud.
+  spoken(line, all, own) {
+    const {total} = this.samples;
+    const figures = all ? [`inclusive ${share(all, total)} percent`, `exclusive ${share(own, total)} percent`] : [];
+    return [`line ${line}`, ...figures, this.text[line - 1] || "no text"].join(", ");
+  }
+
   cell(name, text) {
     const cell = document.createElement("div");
     cell.setAttribute("role", "gridcell");
@@ -116,19 +126,25 @@ class Source {
     return cell;
   }
 
+  // Goes to the next line with samples (1), or to the previous one (-1), where there is one.
+  goToCostly(step) {
+    const {lines} = this;
+    let place = lines.indexOf(this.at) + step;
+    while (place >= 0 && place < lines.length && !this.costs.has(lines[place])) place += step;
+    if (lines[place] !== undefined) this.goTo(this.file, lines[place]);
+  }
+
   key(event) {
-    const {lines, element} = this, place = lines.indexOf(this.at);
-    const page = Math.max(1, Math.floor(element.clientHeight / HEIGHT) - 1);
-    const costly = step => {
-      let k = place + step;
-      while (k >= 0 && k < lines.length && !this.costs.has(lines[k])) k += step;
-      return k - place;
-    };
-    const step = {ArrowDown: 1, ArrowUp: -1, PageDown: page, PageUp: -page, Home: -Infinity, End: Infinity,
-      n: costly(1), p: costly(-1)}[event.key];
-    if (step === undefined || event.ctrlKey || event.metaKey || event.altKey) return;
-    const to = lines[Math.max(0, Math.min(lines.length - 1, place + step))];
-    if (to !== undefined) this.goTo(this.file, to);
+    if (event.ctrlKey || event.metaKey || event.altKey) return;
+    const {lines, element} = this, page = Math.max(1, Math.floor(element.clientHeight / HEIGHT) - 2);
+    const step = {ArrowDown: 1, ArrowUp: -1, PageDown: page, PageUp: -page, Home: -Infinity, End: Infinity}[event.key];
+    const costly = {n: 1, p: -1}[event.key];
+    if (costly) this.goToCostly(costly);
+    else if (step === undefined) return;
+    else {
+      const to = lines[Math.max(0, Math.min(lines.length - 1, lines.indexOf(this.at) + step))];
+      if (to !== undefined) this.goTo(this.file, to);
+    }
     event.preventDefault();
   }
 }

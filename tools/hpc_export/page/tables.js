@@ -6,7 +6,7 @@ const TABLES = {
     about: "each procedure below the place that called it"},
   callers: {title: "Callers", columns: OWN, make: callers, about: "each procedure, and below it who called it"},
   callees: {title: "Callees", columns: OWN, make: callees, about: "each procedure, and below it what it calls"},
-  around: {title: "Around", columns: OWN, make: samples => around(samples, view.procedure), inOrder: true,
+  sandwich: {title: "Sandwich", columns: OWN, make: samples => sandwich(samples, view.procedure), inOrder: true,
     about: "one procedure, its callers and its callees"},
   flat: {title: "Flat", columns: OWN, make: flat, about: "files, their procedures, and their lines"},
 };

@@ -4,6 +4,13 @@ let profile, view;
 
 const GRAPHS = {procedure: procedureGraph, scope: scopeGraph};
 
+// What is selected: a procedure and a file, -1 where there is none.
+const NOTHING = {procedure: -1, file: -1};
+const selectedOf = row => row ? {
+  procedure: row.procedure === undefined ? -1 : row.procedure,
+  file: row.file !== undefined ? row.file : row.site === undefined ? -1 : fileOf(row.site),
+} : NOTHING;
+
 class View {
   constructor(base, texts) {
     this.shown = new Shown(base);
@@ -47,7 +54,7 @@ class View {
         "/": () => { field.focus(); field.select(); },
         f: () => press("focus-procedure"), F: () => press("focus-file"),
         h: () => press("hide-procedure"), H: () => press("hide-file"),
-        a: () => this.setTable("around"), s: () => press("sources"),
+        a: () => this.setTable("sandwich"), s: () => press("sources"), Escape: () => this.icicle.zoomOut(),
       }[event.key];
       if (!does) return;
       does();
@@ -70,7 +77,7 @@ class View {
       };
     });
     const {grid} = this, text = separator => written(grid.rows, grid.table.columns, grid.samples.total, separator);
-    document.getElementById("hot").onclick = () => grid.hotPath(grid.at);
+    document.getElementById("hot").onclick = () => grid.hotPath(Math.max(grid.at, 0));
     document.getElementById("fold").onclick = () => grid.foldAll();
     document.getElementById("sources").onclick = () => this.setSource(!this.isSourceShown);
     const tell = what => this.say(`${grouped.format(grid.rows.length)} rows ${what}`);
@@ -126,15 +133,23 @@ class View {
   // The graph begins at all samples then, since its nodes are others.
   setFilters(filters) { this.choose({filters}); this.changed(); }
 
+  // A graph of what is shown, with its sums.
+  graphOf(kind) {
+    const graph = this.graphs[kind] = this.graphs[kind] || GRAPHS[kind](profile);
+    if (graph.samples === this.samples) return graph;
+    graph.samples = this.samples;
+    graph.fill(graphSamples(graph, this.samples));
+    graph.frame = graphFrames(graph, this.samples);
+    return graph;
+  }
+
   setGraph(kind, isSame = false) {
     this.graphKind = kind;
     for (const each of Object.keys(GRAPHS))
       document.getElementById(`by-${each}`).setAttribute("aria-pressed", each === kind);
-    const {icicle} = this, graph = this.graphs[kind] = this.graphs[kind] || GRAPHS[kind](profile);
-    const root = isSame && icicle.graph === graph ? icicle.root : graph.count;
-    graph.fill(graphSamples(graph, this.samples), this.isByCost);
-    graph.frame = graphFrames(graph, this.samples);
+    const {icicle} = this, graph = this.graphOf(kind), root = isSame && icicle.graph === graph ? icicle.root : graph.count;
     document.getElementById("by-cost").setAttribute("aria-pressed", this.isByCost);
+    graph.order(this.isByCost);
     icicle.show(graph);
     this.setSearch(this.search.words);
     icicle.zoom(graph.inclusive[root] ? root : graph.count);
@@ -173,6 +188,9 @@ class View {
       tab.tabIndex = each === kind ? 0 : -1;
     }
     this.grid.show(kind, this.samples);
+    const {selected, graph} = this.icicle;
+    if (selected !== graph.count) this.follow(selected);
+    else this.selected = selectedOf(this.grid.rows[0]);
     this.changed();
   }
 
@@ -193,7 +211,8 @@ class View {
     this.search = new Search(words.trim());
     const found = this.found = this.search.of(this.icicle.graph), label = document.getElementById("found");
     this.icicle.matched = found && found.matched;
-    const count = found && `${grouped.format(found.nodes)} ${found.nodes === 1 ? "match" : "matches"}`;
+    const [one, more] = found && found.arePlaces ? ["place", "places"] : ["match", "matches"];
+    const count = found && `${grouped.format(found.nodes)} ${found.nodes === 1 ? one : more}`;
     label.textContent = this.search.wrong ? "not a regular expression"
       : found ? `${count} · ${share(found.samples, this.samples.total)} %` : "";
     this.icicle.draw();
@@ -205,7 +224,7 @@ class View {
     const {found, icicle} = this, {graph} = icicle;
     if (!found || !found.nodes) return;
     let node = icicle.selected === graph.count ? (step > 0 ? -1 : graph.count) : icicle.selected;
-    do node = (node + step + graph.count) % graph.count; while (!found.matched[node]);
+    do node = (node + step + graph.count) % graph.count; while (!found.matched[node] || !graph.inclusive[node]);
     if (!icicle.box(node)) icicle.zoom(graph.above(node));
     icicle.select(node);
   }
@@ -218,31 +237,54 @@ class View {
 
   // The table and the source follow the graph.
   graphSelected(node) {
-    const {graph} = this.icicle, {grid} = this;
-    if (node === graph.count) { this.icicle.procedure = -1; return this.changed(); }
+    const {graph} = this.icicle;
+    if (node === graph.count) {
+      this.icicle.procedure = -1;
+      this.selected = NOTHING;
+      return this.changed();
+    }
     const at = graph.from ? graph.from[node] : node, procedure = profile.procedureOf(at);
     if (procedure >= 0) this.procedure = procedure;
     this.icicle.procedure = procedure;
-    if (this.kind === "top") {
-      const way = [];
-      for (let up = at; up >= 0; up = profile.parent[up]) way.unshift(up);
-      grid.follow(way);
-    } else if (this.kind === "around") {
-      if (grid.rows[0] && grid.rows[0].procedure !== procedure && procedure >= 0) grid.show("around", this.samples);
-    } else if (procedure >= 0 && this.kind !== "flat") grid.follow([procedure]);
-    else if (procedure >= 0) this.followFlat(at, procedure);
+    this.follow(node);
     this.showSource(at);
     this.changed();
   }
 
-  followFlat(at, procedure) {
-    const file = fileOf(at), row = this.grid.rows.find(row => row.level === 0 && row.file === file);
-    if (row) this.grid.follow([row.order, procedure]);
+  // The table follows a node of the graph. Where it has no row of it, none is selected.
+  follow(node) {
+    const {graph} = this.icicle, {grid, kind} = this, at = graph.from ? graph.from[node] : node;
+    const procedure = profile.procedureOf(at), way = [];
+    if (kind === "top") for (let up = at; up >= 0; up = profile.parent[up]) way.unshift(up);
+    else if (kind === "flat") way.push(...this.wayInFiles(at));
+    else if (kind === "sandwich") {
+      if (procedure >= 0 && !(grid.rows[0] && grid.rows[0].procedure === procedure)) grid.show(kind, this.samples);
+      way.push(0);
+    } else way.push(procedure);
+    if (!grid.follow(way)) grid.unselect();
+    this.selected = {procedure, file: fileOf(at)};
+  }
+
+  // The way in the flat table: the file, the procedure that was called, and of a place its line.
+  wayInFiles(at) {
+    const {scope, procNode, operand} = profile, file = fileOf(at);
+    const row = this.grid.rows.find(row => row.level === 0 && row.file === file);
+    if (!row || procNode[at] < 0) return [];
+    return [row.order, operand[procNode[at]], ...(scope[at] >= CALL ? [lineOrder(at)] : [])];
+  }
+
+  // Whether a row is of what the pointer is on in the graph: the node, or in other tables its procedure.
+  isPointed(row) {
+    const {graph, hovered} = this.icicle;
+    if (hovered < 0 || hovered === graph.count) return false;
+    return this.kind === "top" ? this.graphNodeOf(row) === hovered
+      : row.procedure >= 0 && row.procedure === profile.procedureOf(graph.from ? graph.from[hovered] : hovered);
   }
 
   // The graph and the source follow the table, where it is the one that leads.
   rowChosen(row, leads) {
     if (!row) return;
+    this.selected = selectedOf(row);
     if (row.procedure >= 0) this.procedure = this.icicle.procedure = row.procedure;
     const node = this.graphNodeOf(row), {icicle} = this;
     if (leads && node >= 0) {
