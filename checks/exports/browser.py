@@ -15,7 +15,7 @@ WORDS = ["--headless", "--no-sandbox", "--disable-gpu", "--hide-scrollbars", "--
 MOST_SECONDS = 60
 
 LIGHT, DARK = "light", "dark"
-DESKTOP, TABLET, PHONE = (1280, 900), (768, 1024), (390, 844)
+DESKTOP, TABLET, PHONE, LOW = (1280, 900), (768, 1024), (390, 844), (1280, 600)
 
 KEYS = {"Tab": 9, "Enter": 13, "Escape": 27, " ": 32, "PageUp": 33, "PageDown": 34, "End": 35, "Home": 36,
         "ArrowLeft": 37, "ArrowUp": 38, "ArrowRight": 39, "ArrowDown": 40}
@@ -105,22 +105,24 @@ class Browser:
         for key in keys:
             code = KEYS.get(key, ord(key[0].upper()))
             words = {"key": key, "windowsVirtualKeyCode": code}
-            text = {"text": key} if len(key) == 1 else {}
+            text = {"text": "\r"} if key == "Enter" else {"text": key} if len(key) == 1 else {}
             self.ask("Input.dispatchKeyEvent", type="keyDown", **words, **text)
             self.ask("Input.dispatchKeyEvent", type="keyUp", **words)
 
     def write(self, text):
         self.ask("Input.insertText", text=text)
 
-    def mouse(self, kind, x, y):
-        """`mouseMoved`, `mousePressed` or `mouseReleased`."""
+    def mouse(self, kind, x, y, count=1):
+        """`mouseMoved`, `mousePressed` or `mouseReleased`; a double click has the count 1, and then 2."""
         self.is_pressed = kind == "mousePressed" or kind == "mouseMoved" and self.is_pressed
-        words = {"button": "none"} if kind == "mouseMoved" and not self.is_pressed else {"button": "left", "clickCount": 1}
+        is_free = kind == "mouseMoved" and not self.is_pressed
+        words = {"button": "none"} if is_free else {"button": "left", "clickCount": count}
         self.ask("Input.dispatchMouseEvent", type=kind, x=x, y=y, buttons=int(self.is_pressed), **words)
 
-    def click(self, x, y):
-        for kind in ("mousePressed", "mouseReleased"):
-            self.mouse(kind, x, y)
+    def click(self, x, y, count=1):
+        for number in range(1, count + 1):
+            for kind in ("mousePressed", "mouseReleased"):
+                self.mouse(kind, x, y, number)
 
     def click_on(self, selector):
         """A click in the middle of an element."""

@@ -19,14 +19,14 @@ def same(name, found, wanted):
         complain(f"{name}: found {str(found)[:600]}, not {str(wanted)[:600]}")
 
 
-def export(database, *words):
-    """Status, output and errors of the exporter."""
-    done = subprocess.run([EXPORT, database, *words], capture_output=True)
+def export(database, *words, at=None):
+    """Status, output and errors of the exporter, called in a folder."""
+    done = subprocess.run([EXPORT, database, *words], capture_output=True, cwd=at)
     return done.returncode, done.stdout, done.stderr.decode()
 
 
-def exported(database, *words):
-    status, out, errors = export(database, *words)
+def exported(database, *words, at=None):
+    status, out, errors = export(database, *words, at=at)
     if status != 0 or errors:
         complain(f"{database.name} {words}: status {status}, {errors}")
     return out

@@ -1,10 +1,12 @@
 """Folded stacks, speedscope's files and callgrind's, beside plain counts of the same samples."""
+import glob
+import html
 import json
 import re
 import shutil
 import subprocess
 import tempfile
-from collections import defaultdict
+from collections import Counter, defaultdict
 
 import databases
 from exporter import TOP, complain, exported, printed, same
@@ -42,6 +44,27 @@ def look_at_folded(name, database, profile, period, harts):
     for hart in range(harts):
         found = folded_lines(exported(database, "folded", "--hart", str(hart)))
         same(f"{name}: hart {hart}, folded", sum(found.values()), period * sum(c for h, c, _ in profile if h == hart))
+
+
+# flamegraph.pl by its name, or that of Debian's ruby-stackprof.
+FLAMEGRAPHS = "/usr/lib/*/rubygems-integration/*/gems/stackprof-*/vendor/FlameGraph/flamegraph.pl"
+
+
+def look_at_flamegraph(name, database, profile, period):
+    """The boxes of flamegraph.pl's picture, each with its cost."""
+    tool = shutil.which("flamegraph.pl") or next(iter(glob.glob(FLAMEGRAPHS)), None)
+    if not tool or not shutil.which("perl"):
+        return
+    done = subprocess.run(["perl", tool], input=exported(database, "folded"), capture_output=True)
+    titles = re.findall(r"<title>(.*) \(([\d,]+) samples, [\d.]+%\)", done.stdout.decode())
+    found = Counter((html.unescape(title), int(cost.replace(",", ""))) for title, cost in titles)
+    boxes = defaultdict(int)
+    for _, count, path in profile:
+        names = stack_of(path).split(";")
+        for length in range(len(names) + 1):
+            boxes[tuple(names[:length])] += count * period
+    wanted = Counter((re.sub(r"_\[i\]$", "", stack[-1]) if stack else "all", cost) for stack, cost in boxes.items())
+    same(f"{name}: flamegraph.pl's boxes", found, wanted)
 
 
 # ---- speedscope

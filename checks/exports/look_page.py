@@ -52,7 +52,7 @@ GRID = """
 const {grid} = view, rows = [...document.querySelectorAll("#rows [role=row]")];
 return {rows: grid.rows.length, roots: grid.rows.filter(row => row.level === 0).length, at: grid.at,
   sum: grid.rows.filter(row => row.level === 0).reduce((sum, row) => sum + row.exclusive, 0),
-  has: grid.rows.some(row => row.has),
+  has: grid.rows[grid.at].has,
   active: document.getElementById(document.getElementById("grid").getAttribute("aria-activedescendant")) !== null,
   told: rows.every(row => row.getAttribute("aria-level") && row.querySelectorAll("[role=gridcell]").length === 5)};
 """

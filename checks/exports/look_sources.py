@@ -1,32 +1,17 @@
-"""Source texts with costs, names of classes, and why call paths are partial: beside plain counts and binutils."""
+"""Source texts with costs, and why call paths are partial, beside plain counts."""
 import json
-import pathlib
 import re
-import shutil
 import struct
-import subprocess
 import zlib
 import base64
 from collections import defaultdict
 
 import databases
 from exporter import TOP, complain, export, exported, same
-from look_formats import folded_lines, read_callgrind
+from profiles import calls
 
 CALLS = TOP / "examples" / "calls"
-CALLS_C = (0, 0, b"examples/calls/calls.c")
 FIGURES = re.compile(r" *(\d+|\.) +(\d+\.\d|\.) +(\d+|\.) +(\d+\.\d|\.) +(\d+)(?:  (.*))?$")
-
-
-def calls():
-    """Samples at lines of examples/calls, some of them below others."""
-    evaluate, power, main = (0, 40, b"evaluate"), (0, 80, b"power"), (0, 20, b"main")
-    file = CALLS_C
-    top = ("root", 0), ("proc", main), ("call", (*file, 110)), ("proc", evaluate)
-    again = *top, ("call", (*file, 84)), ("proc", evaluate)
-    inlined = *again, ("inline", power, (*file, 98)), ("stmt", (*file, 74))
-    ends = [(0, 3, (*top, ("stmt", (*file, 86)))), (1, 2, (*again, ("stmt", (*file, 86))))]
-    return [*ends, (0, 5, inlined), (0, 1, (*top, ("call", (*file, 84)), ("proc", power), ("stmt", 0x10010)))]
 
 
 def line_costs(profile, period):
@@ -62,8 +47,12 @@ def look_at_source(folder):
         costs, texts = read_source(exported(database, "source", "calls.c", *words))
         same(f"costs of lines, {words}", costs, wanted)
         same(f"texts of lines, {words}", [texts[number] for number in sorted(texts)], [line.rstrip() for line in lines])
-    costs, texts = read_source(exported(database, "source", "examples/calls/calls.c"))
+    costs, texts = read_source(exported(database, "source", "examples/calls/calls.c", "--source", folder))
     same("costs of lines without a text", (costs, set(texts.values())), (wanted, {""}))
+    costs, texts = read_source(exported(database, "source", "calls.c", at=TOP))
+    same("a text where its name says", (costs, texts[84].split()[:2]), (wanted, ["long", "left"]))
+    same("no folder of sources", export(database, "html", "--source", folder / "no"),
+         (4, b"", f"hpc-export: {folder / 'no'}: no such folder\n"))
     least = read_source(exported(database, "source", "calls.c", "--min-percent", "50"))[0]
     total = sum(count for _, count, _ in profile) * period
     same("lines of 50 %", least, {line: cost for line, cost in wanted.items() if 2 * cost[0] >= total})
@@ -108,38 +97,6 @@ def look_at_margin(window, folder, database, wanted, total, period=7):
     same("the source follows the table", window.run("return view.source.at;"), 74)
 
 
-# ---- names of classes
-
-
-def look_at_names(window, program, folder):
-    """A program of C++ with four virtual area(): each has a row, and its name is what nm says."""
-    if not shutil.which("riscv64-unknown-elf-g++"):
-        return
-    source = folder / "areas.cc"
-    shutil.copy(TOP / "checks" / "exports" / "programs" / "areas.cc", source)
-    subprocess.run(["make", "-s", "-C", TOP / "guest", f"PROGRAM={source}"], check=True, capture_output=True)
-    elf, database = folder / "areas.elf", folder / "areas.db"
-    words = [program, "profile", elf, folder / "areas.input", folder / "areas.schedule", "499", "1", database]
-    subprocess.run(words, check=True, capture_output=True)
-    symbols = subprocess.run(["riscv64-unknown-elf-nm", "-C", elf], check=True, capture_output=True).stdout.decode()
-    wanted = sorted(set(re.findall(r" [tTwW] (.*::area\(\) const)$", symbols, re.M)))
-    same("four classes", len(wanted), 4)
-    folded = folded_lines(exported(database, "folded", "--elf", elf))
-    same("classes of folded stacks", sorted(stack.split(";")[-1] for stack in folded if "area" in stack), wanted)
-    own, _, _, _ = read_callgrind(exported(database, "callgrind", "--elf", elf))
-    same("classes of callgrind", sorted(name for name in own if "area" in name), wanted)
-    frames = json.loads(exported(database, "speedscope", "--elf", elf))["shared"]["frames"]
-    same("classes of speedscope", sorted(frame["name"] for frame in frames if "area" in frame["name"]), wanted)
-    same("no program", export(database, "folded", "--elf", folder / "no.elf")[0], 4)
-    same("a program that is none", export(database, "folded", "--elf", database)[0], 2)
-    page = folder / "areas.html"
-    exported(database, "html", "--elf", elf, "--source", "/", "-o", page)
-    if window:
-        window.open(page)
-        rows = window.run("return hpc.table('callers', 0).map(row => row[4]).filter(name => name.includes('area'));")
-        same("classes of the page", sorted(rows), wanted)
-
-
 # ---- why paths are partial
 
 
@@ -174,10 +131,8 @@ def look_at_causes(window, folder, database, samples, period=7):
             complain(f"the page doesn't say why paths are partial: {said}")
 
 
-def look_at_sources(window, program, folder):
+def look_at_sources(window, folder):
     database, wanted, total = look_at_source(folder)
     if window:
         look_at_margin(window, folder, database, wanted, total)
     look_at_causes(window, folder, database, total // 7)
-    if program:
-        look_at_names(window, program, folder)

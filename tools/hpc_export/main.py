@@ -155,6 +155,14 @@ def _causes(words, database):
     return [[measurement.CAUSES[end], count] for end, count in measurement.causes(measured).most_common()]
 
 
+def _sources(words):
+    """Where sources are. The source that is asked for is where its name says, if nothing else is said."""
+    for folder in words.source or []:
+        if "=" not in folder and not os.path.isdir(folder):
+            raise Refused(DEVICE, f"{folder}: no such folder")
+    return Sources(words.source or (["="] if words.format == "source" else []))
+
+
 def _options(words, database):
     harts = sorted(set(words.hart)) if words.hart else list(range(database.harts))
     if not set(harts) <= set(range(database.harts)):
@@ -165,7 +173,7 @@ def _options(words, database):
         with_places=words.places,
         min_percent=words.min_percent,
         by_cost=words.by_cost,
-        sources=Sources(words.source or []),
+        sources=_sources(words),
         file=words.file,
         causes=_causes(words, database),
     )

@@ -1,7 +1,7 @@
 """Where the texts of source files are found.
 
 A word FROM=TO says that names which begin with FROM begin with TO here. A word FOLDER says that a name is sought below
-it: the name as it is, and then without its first folder, its first two, and so on.
+it: the name as it is, and then without its first folder, its first two, and so on. So `=` means the names as they are.
 """
 import os
 

@@ -1,8 +1,10 @@
 // The table on the page: rows that unfold and sort, of which those are drawn that are seen.
 
 const HEIGHT = 24, PART = 500000;
-// Widths of the table from which it has all columns, and whole figures; of a figure's column and of a name at least.
-const WIDE = 760, MEDIUM = 540, LEAST_FIGURE = 104, LEAST_NAME = 190;
+// The milliseconds within which two clicks are a double click.
+const TWICE = 500;
+// Widths: of a table that isn't narrow, of a figure's column, and of names where all columns or whole figures are there.
+const MEDIUM = 540, LEAST_FIGURE = 104, WIDE_NAME = 420, LEAST_NAME = 190;
 
 class Grid {
   constructor() {
@@ -14,7 +16,6 @@ class Grid {
     this.element.addEventListener("scroll", () => this.draw());
     this.element.addEventListener("keydown", event => this.key(event));
     this.body.addEventListener("click", event => this.click(event));
-    this.body.addEventListener("dblclick", event => this.click(event, true));
     this.body.addEventListener("mousemove", event => this.hover(event));
     this.body.addEventListener("mouseleave", () => view.icicle.hover(-1));
     new ResizeObserver(() => this.draw()).observe(this.element);
@@ -56,7 +57,8 @@ class Grid {
       if (place === 4) cell.className = "more";
       button.type = "button";
       button.textContent = (HEADS[column] || "Scope") + (sorts ? (this.sort.down ? " ▾" : " ▴") : "");
-      if (column.endsWith("share")) button.setAttribute("aria-label", column + ", percent");
+      const spoken = HEADS[VALUE[column]] || "Scope";
+      button.setAttribute("aria-label", column.endsWith("share") ? `${spoken}, percent` : spoken);
       button.onclick = () => this.sortBy(column);
       cell.append(button);
       return cell;
@@ -197,10 +199,12 @@ class Grid {
     else element.removeAttribute("aria-activedescendant");
   }
 
-  // The columns have room for the greatest figure. Where that leaves too little for names, figures are short.
+  // The columns have room for the greatest figure. Where that leaves too little for names the last one goes, and then
+  // figures are short.
   fit() {
-    const {element} = this, width = element.clientWidth, isWide = width >= WIDE;
+    const {element} = this, width = element.clientWidth;
     const figures = Math.max(LEAST_FIGURE, 9 * figure(this.samples.total).length + 22);
+    const isWide = width - 3 * figures - 90 >= WIDE_NAME;
     this.isNarrow = width < MEDIUM;
     this.isShort = this.isNarrow || width - (isWide ? 3 : 2) * figures - 90 < LEAST_NAME;
     element.classList.toggle("narrow", this.isNarrow);
@@ -289,10 +293,13 @@ class Grid {
     return element ? Number(element.id.slice(4)) : -1;
   }
 
-  click(event, twice = false) {
-    const place = this.placeOf(event);
+  // A row is drawn anew when it is chosen, so that a browser's own double click wouldn't come to it.
+  click(event) {
+    const place = this.placeOf(event), {clicked} = this;
     if (place < 0) return;
-    if (twice || event.target.className === "twist") this.turn(place);
+    const isTwice = clicked && clicked.place === place && event.timeStamp - clicked.time < TWICE;
+    this.clicked = isTwice ? null : {place, time: event.timeStamp};
+    if (isTwice || event.target.className === "twist") this.turn(place);
     this.choose(place);
   }
 

@@ -1,6 +1,14 @@
 // The icicle graph: laid out level by level down to a pixel, drawn where it is seen.
 
 const ROW = 22;
+// A name is cut to so many letters at least.
+const LEAST_LETTERS = 4;
+
+// A name for a box with room for so many letters: an inlined procedure's goes without its mark first.
+function fitted(label, letters) {
+  const name = label.length > letters ? label.replace(/^\[I\] /, "") : label;
+  return name.length <= letters || letters >= LEAST_LETTERS ? shortened(name, letters) : "";
+}
 
 class Icicle {
   constructor() {
@@ -106,9 +114,11 @@ class Icicle {
       pen.fillStyle = this.look.accent;
       pen.fillRect(left, y + ROW - 4, w - 1, 2);
     }
-    if (node < 0 || w <= 3 * letter) return;
+    if (node < 0) return;
+    const words = fitted(graph.shown(node), Math.floor((w - 9) / letter));
+    if (!words) return;
     pen.fillStyle = text;
-    pen.fillText(shortened(graph.shown(node), Math.floor((w - 9) / letter)), left + 5, y + ROW / 2 - 1);
+    pen.fillText(words, left + 5, y + ROW / 2 - 1);
   }
 
   // Whether a node is the procedure that is selected, wherever it stands.

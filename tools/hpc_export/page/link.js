@@ -33,7 +33,8 @@ class Link {
       row: grid.at > 0 ? JSON.stringify(grid.orders(grid.at)) : undefined,
       search: view.search.words || undefined,
       least: view.percent === profile.minimum ? undefined : view.percent,
-      source: view.isSourceMoved ? view.isSourceShown ? `${source.file}.${source.at}` : "off" : undefined,
+      source: !view.isSourceShown ? view.isSourceMoved ? "off" : undefined
+        : view.isSourceMoved || source.place !== source.start ? source.place : undefined,
       panes: edges.some(edge => edge.isMoved) ? edges.map(edge => Math.round(100 * edge.share)).join(".") : undefined,
     };
     const pairs = Object.entries(words).filter(([, value]) => value !== undefined);

@@ -30,6 +30,7 @@ class Edge {
     this.share = Math.max(LEAST, Math.min(1 - LEAST, value));
     document.documentElement.style.setProperty(this.variable, this.share.toFixed(3));
     this.element.setAttribute("aria-valuenow", Math.round(100 * this.share));
+    this.element.setAttribute("aria-valuetext", `${Math.round(100 * this.share)} percent`);
     if (!moves) return;
     this.isMoved = true;
     this.onMove();

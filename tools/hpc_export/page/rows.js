@@ -141,8 +141,8 @@ function flat({exclusive, inclusive}) {
     const name = lineFile[node] < 0 ? "<unknown file>" : files[lineFile[node]];
     // In the order of the name's bytes.
     const order = Array.from(encoder.encode(name), byte => String.fromCharCode(byte)).join("");
-    return {name, shown: lineFile[node] < 0 ? name : profile.shortFile(lineFile[node]), order, file: lineFile[node] < 0 ? -1 : sameFile[lineFile[node]], has: true,
-      make: () => procs(group)};
+    const isKnown = lineFile[node] >= 0, file = isKnown ? sameFile[lineFile[node]] : -1;
+    return {name, shown: isKnown ? profile.shortFile(file) : name, order, file, has: true, make: () => procs(group)};
   });
 }
 

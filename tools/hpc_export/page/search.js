@@ -24,8 +24,8 @@ class Search {
     if (found === undefined) this.cache.set(key, found = this.matches(profile.label(i)));
     return found;
   }
-  // Which nodes of a graph match, how many with samples, and the samples at or below them, each once. Where no procedure
-  // of a graph without places matches, the places are searched, and what they are in is marked.
+  // Which nodes of a graph match, how many with samples, and the samples at or below them, each once. Where nothing
+  // matches in a graph without places, the places are searched, and what they are in is marked.
   of(graph) {
     if (!this.words || this.wrong) return null;
     const found = this.within(graph);

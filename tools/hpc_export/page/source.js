@@ -65,6 +65,7 @@ class Source {
     document.getElementById("file").value = file;
     document.getElementById("file").title = profile.files[file];
     this.at = line || this.costliest();
+    if (!this.start) this.start = this.place;
     const place = Math.max(0, this.lines.indexOf(this.at)), {element} = this, top = place * HEIGHT;
     const seen = element.clientHeight - document.getElementById("lines-head").offsetHeight;
     this.body.style.height = `${this.lines.length * HEIGHT}px`;
@@ -72,6 +73,9 @@ class Source {
     this.draw();
     if (leads) view.changed();
   }
+
+  // The file and the line, as links have them.
+  get place() { return `${this.file}.${this.at}`; }
 
   costliest() {
     let best = this.lines[0] || 1;
@@ -115,7 +119,8 @@ class Source {
   spoken(line, all, own) {
     const {total} = this.samples;
     const figures = all ? [`inclusive ${share(all, total)} percent`, `exclusive ${share(own, total)} percent`] : [];
-    return [`line ${line}`, ...figures, this.text[line - 1] || "no text"].join(", ");
+    const text = this.text[line - 1] || (this.text.length ? "empty" : "no text");
+    return [`line ${line}`, ...figures, text.trim()].join(", ");
   }
 
   cell(name, text) {

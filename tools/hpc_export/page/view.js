@@ -69,9 +69,11 @@ class View {
       tab.title = `${TABLES[kind].title}: ${TABLES[kind].about}`;
       tab.onclick = () => this.setTable(kind);
       tab.onkeydown = event => {
-        const step = {ArrowRight: 1, ArrowLeft: tabs.length - 1}[event.key];
-        if (!step) return;
-        const to = tabs[(place + step) % tabs.length];
+        const last = tabs.length - 1;
+        const next = {ArrowRight: place + 1, ArrowLeft: place + last, Home: 0, End: last}[event.key];
+        if (next === undefined) return;
+        const to = tabs[next % tabs.length];
+        event.preventDefault();
         this.setTable(to);
         document.getElementById(`tab-${to}`).focus();
       };
@@ -147,7 +149,8 @@ class View {
     this.graphKind = kind;
     for (const each of Object.keys(GRAPHS))
       document.getElementById(`by-${each}`).setAttribute("aria-pressed", each === kind);
-    const {icicle} = this, graph = this.graphOf(kind), root = isSame && icicle.graph === graph ? icicle.root : graph.count;
+    const {icicle} = this, graph = this.graphOf(kind);
+    const root = isSame && icicle.graph === graph ? icicle.root : graph.count;
     document.getElementById("by-cost").setAttribute("aria-pressed", this.isByCost);
     graph.order(this.isByCost);
     icicle.show(graph);
@@ -170,7 +173,7 @@ class View {
     this.grid.least = this.icicle.least = percent ? Math.max(1, percent * this.samples.total / 100) : 0;
     const slider = document.getElementById("least"), text = `${Number(percent.toFixed(2))} %`;
     slider.value = sliderAt(percent);
-    slider.setAttribute("aria-valuetext", text);
+    slider.setAttribute("aria-valuetext", `${Number(percent.toFixed(2))} percent`);
     document.getElementById("least-text").textContent = text;
     if (!draws) return;
     const orders = this.grid.orders(this.grid.at);
@@ -277,7 +280,7 @@ class View {
   isPointed(row) {
     const {graph, hovered} = this.icicle;
     if (hovered < 0 || hovered === graph.count) return false;
-    return this.kind === "top" ? this.graphNodeOf(row) === hovered
+    return this.kind === "top" ? this.graphNodeOf(row) === hovered && !(graph.nodeOf && row.isPlace)
       : row.procedure >= 0 && row.procedure === profile.procedureOf(graph.from ? graph.from[hovered] : hovered);
   }
 
