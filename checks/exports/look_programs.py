@@ -28,6 +28,18 @@ def profiled(program, files, period, database):
     subprocess.run(words, check=True, capture_output=True)
 
 
+def has_compiler():
+    """Whether g++ for this machine is there, with its library."""
+    compiler = shutil.which("riscv64-unknown-elf-g++")
+    words = [compiler, "-print-file-name=picolibc.specs"]
+    return bool(compiler) and b"/" in subprocess.run(words, check=True, capture_output=True).stdout
+
+
+def has_names(elf, database):
+    """Whether what reads linkage names is there."""
+    return "pyelftools" not in export(database, "folded", "--elf", elf)[2]
+
+
 def built(folder, name, harts):
     """The files of a program of programs/, built as guest/ builds it."""
     source = folder / name
@@ -40,20 +52,21 @@ def built(folder, name, harts):
 def look_at_programs(window, program, folder):
     """Gives the pages."""
     made = [("calls", CALLS, 101, [TOP])]
-    if shutil.which("riscv64-unknown-elf-g++"):
+    if has_compiler():
         made += [("areas", built(folder, "areas.cc", 1), 499, ["/"]),
                  ("barrier", built(folder, "barrier.c", 4), 97, ["/"])]
     pages = []
     for name, files, period, sources in made:
         database, page = folder / f"{name}.program.db", folder / f"{name}.program.html"
         profiled(program, files, period, database)
-        if name == "areas":
+        elf = ["--elf", files[0]] if has_names(files[0], database) else []
+        if elf and name == "areas":
             look_at_names(files[0], database, folder)
         words = [word for source in sources for word in ("--source", source)]
         exported(database, "html", *words, "-o", page)
         if window:
             look_at_tables(window, program, name, database, page)
-            exported(database, "html", "--elf", files[0], *words, "-o", page)
+            exported(database, "html", *elf, *words, "-o", page)
             look_at_page_of(window, name, page)
         pages.append(page)
     return pages
@@ -87,7 +100,9 @@ def look_at_page_of(window, name, page):
     if name == "barrier":
         harts = window.run("return [...document.getElementById('hart').options].map(each => each.text);")
         same("harts of the page", harts, ["all (4)", "0", "1", "2", "3"])
-    if name == "areas":
+        names = window.run("return hpc.table('callers', 0).map(row => row[4]);")
+        same("procedures of four harts", [name for name in ("work", "wait_at_barrier") if name not in names], [])
+    if name == "areas" and window.run("return profile.procedures.some(name => name.includes('::'));"):
         found = window.run("return hpc.table('callers', 0).map(row => row[4]).filter(name => name.includes('area'));")
         same("four classes on the page", [len(found), len({name for name in found if name.endswith("::area() const")})],
              [4, 4])
