@@ -49,7 +49,26 @@ def look_at_malformed(folder):
         status, out, errors = export(path, "html", "-o", kept)
         same("malformed", (status, out, errors), (3, b"", f"hpc-export: {path}: database rule {rule} at {where}\n"))
     same("a refusal's output file", kept.read_text(), "kept")
+    look_at_processes(good, rows)
     look_at_changes(good)
+
+
+def look_at_processes(good, rows):
+    """The same where each plane is compared by a process of its own, as of many nodes."""
+    sys.path.insert(0, str(TOP / "tools"))
+    from hpc_export import planes
+    from hpc_export.database import Malformed
+    from hpc_export.reader import read
+
+    many, planes.MANY = planes.MANY, 0
+    same("planes by processes", len(read(good).nodes), 6)
+    for data, rule, where in rows:
+        try:
+            read(data)
+            complain(f"by processes: rule {rule} at {where} is broken, and the database is read")
+        except Malformed as error:
+            same("malformed, by processes", (error.rule, error.offset), (rule, where))
+    planes.MANY = many
 
 
 def look_at_changes(good):

@@ -6,10 +6,11 @@ and the procedure's own file goes on behind `fe`. A call has the inclusive cost 
 also where the path has the call several times (recursion). `calls=` counts samples, since calls aren't counted.
 `<thread root>` and `<partial call paths>` are procedures that call the outermost ones.
 """
-from collections import defaultdict
+import operator
 from itertools import compress
 
-from .contexts import ROOT_NAMES, Labels, encoded, ends, is_place
+from .columns import picked
+from .contexts import ROOT_NAMES, Labels, encoded, ends
 from .database import CALL, INLINE, PROC, ROOT, STMT
 
 UNKNOWN = "???"
@@ -26,15 +27,27 @@ def write(out, database, options):
         f"summary: {profile.total}\n"
     )
     out.write(encoded(head))
-    writer = _Writer(out, profile, has_address, has_row or not has_address)
+    writer = _Writer(profile, has_address, has_row or not has_address)
     for function in sorted(profile.functions):
-        writer.function(function)
+        out.write(encoded("".join(writer.function(function))))
     out.write(b"\ntotals: %d\n" % profile.total)
+
+
+def _marks(*scopes):
+    return bytes(scope in scopes for scope in range(256))
+
+
+_IS_ROOT, _IS_PROC, _IS_PLACE = _marks(ROOT), _marks(PROC), _marks(CALL, STMT)
+_IS_OPEN = _marks(ROOT, PROC, INLINE, CALL)
+
+
+# Of the number of a block: a file's place, and -1 for none, behind this where it is inlined.
+_INLINED = 1 << 33
 
 
 class _Profile:
     """The costs by function. A function is a procedure's place in the list, or -1 - kind for a root. A block of a
-    function is (whether it is inlined, its file)."""
+    function is a file's place, and _INLINED more for what is inlined."""
 
     def __init__(self, database, shown):
         self.nodes, self.labels = database.nodes, Labels(database)
@@ -42,119 +55,131 @@ class _Profile:
         self.all = shown.inclusive(database)
         self.period = database.period
         self.total = sum(self.own)
-        # Function, block, line: cost. Function, block, line, called function: cost and samples.
-        self.costs = defaultdict(lambda: defaultdict(lambda: defaultdict(int)))
-        self.calls = defaultdict(lambda: defaultdict(lambda: defaultdict(int)))
+        # The scope above each node, where there is one.
+        self.above = bytes(picked(self.nodes.scope, self.nodes.parent))
         self.function_of = self._functions()
         self.files = self._files()
-        self._gather_costs()
-        self._gather_calls()
-        self.functions = {-1 - kind for kind, scope in zip(self.nodes.operand, self.nodes.scope) if scope == ROOT}
-        self.functions |= set(self.costs) | set(self.calls)
-        self.functions |= {called for blocks in self.calls.values() for calls in blocks.values() for _, called in calls}
+        roots = compress(self.nodes.operand, self.nodes.scope.translate(_IS_ROOT))
+        self.functions = {-1 - kind for kind in roots} | {
+            *compress(self.nodes.operand, map(operator.and_, self.nodes.scope.translate(_IS_PROC), map(bool, self.all)))
+        }
+        # Function, block, line: cost. Function, block, line, called function: cost.
+        self.costs = self._gathered(self._costs())
+        self.calls = self._gathered(self._calls())
 
     def _functions(self):
-        """For each node the function that it lies in."""
+        """For each node but a statement the function that it lies in."""
         found, nodes = [0] * len(self.nodes), self.nodes
-        for node, (scope, parent, operand) in enumerate(zip(nodes.scope, nodes.parent, nodes.operand)):
+        rows = zip(range(len(nodes)), nodes.scope, nodes.parent, nodes.operand)
+        for node, scope, parent, operand in compress(rows, nodes.scope.translate(_IS_OPEN)):
             found[node] = found[parent] if scope > PROC else operand if scope == PROC else -1 - operand
         return found
 
     def _files(self):
         """Each function's file: that of the first place that is its own, not of what is inlined in it."""
-        nodes = self.nodes
-        is_own = bytes(scope in (CALL, STMT) for scope in nodes.scope)
-        own = [
-            (function, file)
-            for function, file, parent in compress(zip(self.function_of, nodes.line_file, nodes.parent), is_own)
-            if file >= 0 and nodes.scope[parent] == PROC
-        ]
+        nodes, is_of_proc = self.nodes, self.above.translate(_IS_PROC)
+        is_own = bytes(compress(nodes.scope.translate(_IS_PLACE), is_of_proc))
+        files = list(compress(compress(nodes.line_file, is_of_proc), is_own))
+        functions = picked(nodes.operand, list(compress(compress(nodes.parent, is_of_proc), is_own)))
         # Of two the first one stays.
-        return dict(reversed(own))
+        own = zip(reversed(functions), reversed(files))
+        return {function: file for function, file in own if file >= 0}
 
     def name(self, function):
         return ROOT_NAMES[-1 - function] if function < 0 else self.labels.procedures[function]
 
     def positions(self):
         """Whether places are addresses, and whether they are rows of line tables."""
-        places = {file >= 0 for file, scope in set(zip(self.nodes.line_file, self.nodes.scope)) if is_place(scope)}
-        return False in places, True in places
+        files = set(compress(self.nodes.line_file, self.nodes.scope.translate(_IS_PLACE)))
+        return -1 in files, bool(files - {-1})
 
-    def _gather_costs(self):
-        for node, cost in enumerate(self.own):
-            if cost:
-                self.costs[self.function_of[node]][self._block(node)][self.nodes.line[node]] += cost
+    def _gathered(self, rows):
+        """The costs of rows by their function, block and place, added up."""
+        found = {function: {} for function in self.functions}
+        for function, block, place, cost in rows:
+            places = found[function].get(block)
+            if places is None:
+                found[function][block] = {place: cost}
+            else:
+                places[place] = places.get(place, 0) + cost
+        return found
 
-    def _gather_calls(self):
+    def _blocks(self, files, above):
+        """The blocks of places with these files, below these scopes."""
+        return map(operator.add, files, map((0, 0, _INLINED, 0, 0).__getitem__, above))
+
+    def _costs(self):
+        """The rows of statements: nothing else has a cost of its own."""
+        nodes, own = self.nodes, self.own
+        functions = picked(self.function_of, list(compress(nodes.parent, own)))
+        blocks = self._blocks(compress(nodes.line_file, own), compress(self.above, own))
+        return zip(functions, blocks, compress(nodes.line, own), filter(None, own))
+
+    def _calls(self):
+        """The rows of calls, each sample once where one call is within the same."""
         nodes, end, covered = self.nodes, ends(self.nodes), {}
-        for node in compress(range(len(nodes)), bytes(scope == PROC for scope in nodes.scope)):
-            value = self.all[node]
-            if value:
-                parent = nodes.parent[node]
-                caller, called = self.function_of[parent], self.function_of[node]
-                key = caller, nodes.line_file[parent], nodes.line[parent], called
-                if node >= covered.get(key, 0):
-                    covered[key] = end[node]
-                    self.calls[caller][self._block(parent)][nodes.line[parent], called] += value
-
-    def _block(self, node):
-        """The block of a Call or Stmt, or of a root."""
-        nodes = self.nodes
-        is_inlined = nodes.parent[node] >= 0 and nodes.scope[nodes.parent[node]] == INLINE
-        return is_inlined, nodes.line_file[node]
+        has_cost = bytes(map(operator.and_, nodes.scope.translate(_IS_PROC), map(bool, self.all)))
+        called = list(compress(range(len(nodes)), has_cost))
+        callers = picked(nodes.parent, called)
+        functions = picked(self.function_of, callers)
+        files, lines, above = (picked(column, callers) for column in (nodes.line_file, nodes.line, self.above))
+        places = zip(lines, picked(nodes.operand, called))
+        rows = zip(called, functions, files, self._blocks(files, above), places, picked(self.all, called))
+        for node, function, file, block, place, cost in rows:
+            key = function, file, place
+            if node >= covered.get(key, 0):
+                covered[key] = end[node]
+                yield function, block, place, cost
 
 
 class _Writer:
     """Writes functions. Each name is written once, and is a number from then on."""
 
-    def __init__(self, out, profile, has_address, has_row):
-        self.out, self.profile = out, profile
+    def __init__(self, profile, has_address, has_row):
+        self.profile = profile
         self.has_address, self.has_row = has_address, has_row
-        self.written = set()
-
-    def line(self, line):
-        self.out.write(encoded(line + "\n"))
+        # Files by their numbers, from 1; they are told from names that are alike by their text alone.
+        self.files = {file: f"({file + 2}) {name}" for file, name in enumerate(profile.labels.files)}
+        self.files[-1] = f"(1) {UNKNOWN}"
+        self.called = {function: f"({function + 3}) {profile.name(function)}" for function in profile.functions}
 
     def file(self, file):
-        """A file by its number, from 1; files are told from names that are alike by their text alone."""
-        name = UNKNOWN if file < 0 else self.profile.labels.files[file]
-        return self.numbered("file", file + 2, name)
+        text, self.files[file] = self.files[file], f"({file + 2})"
+        return text
 
-    def called(self, function):
-        return self.numbered("function", function + 3, self.profile.name(function))
-
-    def numbered(self, kind, number, name):
-        if (kind, number) in self.written:
-            return f"({number})"
-        self.written.add((kind, number))
-        return f"({number}) {name}"
+    def name(self, function):
+        text, self.called[function] = self.called[function], f"({function + 3})"
+        return text
 
     def position(self, file, line):
         columns = [f"0x{line if file < 0 and line >= 0 else 0:x}"] if self.has_address else []
         return " ".join(columns + [str(line if file >= 0 else 0)] * self.has_row)
 
     def function(self, function):
-        profile = self.profile
-        own_file = profile.files.get(function, -1)
-        own = False, own_file
-        self.line(f"\nfl={self.file(own_file)}")
-        self.line(f"fn={self.called(function)}")
-        costs, calls = profile.costs[function], profile.calls[function]
-        self.block(own_file, costs.get(own, {}), calls.get(own, {}))
-        others = sorted((set(costs) | set(calls)) - {own})
+        """The lines of a function: its own block, and then the others."""
+        own_file = self.profile.files.get(function, -1)
+        costs, calls = self.profile.costs[function], self.profile.calls[function]
+        lines = [f"\nfl={self.file(own_file)}\nfn={self.name(function)}\n"]
+        self.block(lines, own_file, costs.get(own_file, {}), calls.get(own_file, {}))
+        others = sorted((costs.keys() | calls.keys()) - {own_file})
         for block in others:
-            self.line(f"fi={self.file(block[1])}")
-            self.block(block[1], costs.get(block, {}), calls.get(block, {}))
+            file = block if block < _INLINED - 1 else block - _INLINED
+            lines.append(f"fi={self.file(file)}\n")
+            self.block(lines, file, costs.get(block, {}), calls.get(block, {}))
         if others:
-            self.line(f"fe={self.file(own_file)}")
+            lines.append(f"fe={self.file(own_file)}\n")
+        return lines
 
-    def block(self, file, costs, calls):
-        for line, cost in sorted(costs.items()):
-            self.line(f"{self.position(file, line)} {cost}")
-        for (line, called), cost in sorted(calls.items()):
+    def block(self, lines, file, costs, calls):
+        if file >= 0:
+            before = "0x0 " if self.has_address else ""
+            lines += [f"{before}{line} {costs[line]}\n" for line in sorted(costs)]
+        else:
+            lines += [f"{self.position(file, line)} {costs[line]}\n" for line in sorted(costs)]
+        for line, called in sorted(calls):
+            cost = calls[line, called]
             called_file = self.profile.files.get(called, -1)
             if called_file != file:
-                self.line(f"cfi={self.file(called_file)}")
-            self.line(f"cfn={self.called(called)}")
-            self.line(f"calls={cost // self.profile.period} {self.position(called_file, -1 if called_file < 0 else 0)}")
-            self.line(f"{self.position(file, line)} {cost}")
+                lines.append(f"cfi={self.file(called_file)}\n")
+            samples, start = cost // self.profile.period, self.position(called_file, -1 if called_file < 0 else 0)
+            lines.append(f"cfn={self.name(called)}\ncalls={samples} {start}\n{self.position(file, line)} {cost}\n")

@@ -1,9 +1,8 @@
 """What several formats need of a database: names as text, the values that are shown, and the tree's shape."""
-from array import array
 from dataclasses import dataclass
 from typing import List
 
-from .database import CALL, INLINE, PROC, ROOT, STMT
+from .database import CALL, INLINE, PROC, ROOT
 
 ROOT_NAMES = ("<thread root>", "<partial call paths>")
 
@@ -75,9 +74,7 @@ class Shown:
         """Each node's inclusive value."""
         values = self.exclusive(database)
         values.append(0)
-        node = len(database.nodes)
-        for parent in reversed(database.nodes.parent):
-            node -= 1
+        for node, parent in zip(range(len(database.nodes) - 1, -1, -1), reversed(database.nodes.parent)):
             values[parent] += values[node]
         values.pop()
         return values
@@ -96,24 +93,10 @@ class Shown:
 
 def ends(nodes):
     """For each node the first one behind all that lie below it."""
-    end = array("q", bytes(8 * (len(nodes) + 1)))
-    node = len(nodes)
-    for parent in reversed(nodes.parent):
-        node -= 1
-        if not end[node]:
-            end[node] = node + 1
+    count = len(nodes)
+    end = [0] * (count + 1)
+    for node, parent in zip(range(count - 1, -1, -1), reversed(nodes.parent)):
+        behind = end[node] = end[node] or node + 1
         if not end[parent]:
-            end[parent] = end[node]
+            end[parent] = behind
     return end
-
-
-def is_place(scope):
-    return scope in (CALL, STMT)
-
-
-def procedure_nodes(nodes):
-    """For each node the nearest Proc at or above it, or the root where there is none."""
-    found = array("q", bytes(8 * len(nodes)))
-    for node, (parent, scope) in enumerate(zip(nodes.parent, nodes.scope)):
-        found[node] = node if scope <= PROC else found[parent]
-    return found

@@ -1,14 +1,13 @@
 """A database in memory, and what its readers share.
 
-Nothing of the proved program is called. A million nodes are read in about two seconds: what is numbers is kept in
-arrays, and as much as can be is done by the library's loops over whole arrays.
+Nothing of the proved program is called. What is numbers is kept in arrays, and as much as can be is done by the
+interpreter's loops over whole arrays (columns.py).
 """
-import sys
 from array import array
 from dataclasses import dataclass
 from typing import List
 
-NONE = 0xFFFFFFFF
+from .columns import numbers
 
 # Scopes of a node.
 ROOT, PROC, INLINE, CALL, STMT = range(5)
@@ -50,17 +49,16 @@ class File:
 
 @dataclass
 class Nodes:
-    """The nodes in preorder, a column for each field. The parent of a root is -1. `operand` is the root's kind, or the
-    place of the procedure, and has no meaning for calls and statements; `line_file` is the place of the line's file, or
-    -1 where the line is an address or there is none; `line` is the line's number or address. `fields` are those of
-    each node behind its parent, of one length, which compare as siblings do. They begin in the file at `offset`."""
+    """The nodes in preorder, a column for each field. The parent of a root is -1; a number of 2^31 or more, which no node
+    has, is negative too. `operand` is the root's kind, the place of the procedure, or a call's or statement's kind of
+    line; `line_file` is the place of the line's file, or -1 where the line is an address or there is none; `line` is
+    the line's number or address, or -1 where there is none. The nodes begin in the file at `offset`."""
 
     parent: array
     scope: bytes
     operand: array
     line_file: array
     line: array
-    fields: list
     offset: int
 
     def __len__(self):
@@ -113,12 +111,3 @@ class Database:
     nodes: Nodes
     planes: List[Plane]
     context: Context
-
-
-def numbers(kind, data):
-    """The little endian numbers of these bytes, of 4 bytes (`I`) or 8 (`Q`)."""
-    found = array(kind)
-    found.frombytes(data)
-    if sys.byteorder == "big":
-        found.byteswap()
-    return found

@@ -1,17 +1,12 @@
 """The fields of a database, version 1: rule 2 of rules.py. A field that isn't whole is refused with its offset."""
-import re
-import struct
-import sys
+import operator
 from array import array
-from itertools import chain, compress
+from itertools import compress, repeat
 
+from .columns import merged, numbers, picked, picker, signed
 from .database import (
     ADDRESS,
-    CALL,
     INLINE,
-    NONE,
-    PROC,
-    ROOT,
     ROW,
     STMT,
     Context,
@@ -21,7 +16,6 @@ from .database import (
     Nodes,
     Plane,
     Procedure,
-    numbers,
 )
 
 
@@ -71,47 +65,62 @@ def _read_name(reader, entry):
 
 # ---- the nodes
 
-_WORD, _FILE_LINE, _ADDRESS = rb".{4}", rb"\0{4}.{8}", rb"\x01\0{3}.{4}"
-_LINE = rb"(?:" + _FILE_LINE + rb"|" + _ADDRESS + rb")"
-# One node: its parent, its scope, and what that has.
-_NODE = re.compile(
-    rb"(?s)" + _WORD + rb"(?:[\x03\x04]\0{3}" + _LINE
-    + rb"|[\x00\x01]\0{3}" + _WORD
-    + rb"|\x02\0{3}" + _WORD + _LINE + rb")"
-)
 LONGEST = 24
-_SELECT = {scopes: bytes(scope in scopes for scope in range(256)) for scopes in ((ROOT, PROC), (INLINE,), (CALL, STMT))}
+
+
+# Of a scope, and of a scope with eight times the node's words.
+_HAS_NO_LINE = bytes(255 * (scope < INLINE) for scope in range(256))
+_SHIFTED = bytes(words << 3 & 255 for words in range(256))
+_HAS_NO_FILE = bytes(255 * (scope & 7 < INLINE or scope >> 3 == 4 + (scope & 7 == INLINE)) for scope in range(256))
 
 
 def _read_nodes(reader, count):
     start = reader.at
-    parts = _NODE.findall(reader.data, start, start + LONGEST * count)[:count]
-    whole = b"".join(parts)
-    # Parts that stand one behind another are the nodes: what one is follows from its own bytes.
-    if len(parts) < count or whole != reader.data[start : start + len(whole)]:
+    data = reader.data[start : start + LONGEST * count]
+    words = numbers("I", data[: len(data) // 4 * 4])
+    starts = _starts(words, count)
+    scope = _scopes(words, starts, count)
+    if scope is None:
         _refuse_node(reader, count)
-    reader.at = start + len(whole)
-    even = b"".join([part.ljust(LONGEST, b"\0") for part in parts])
-    words = numbers("I", even)
-    scope = even[4::LONGEST]
-    # Of a call or a statement; the others are put right.
-    tag, line_file, line = (array("q", words[word::6]) for word in (2, 3, 4))
-    operand = array("q", tag)
-    for node in compress(range(count), scope.translate(_SELECT[ROOT, PROC])):
-        line_file[node] = line[node] = -1
-    inlines = array("q", compress(range(count), scope.translate(_SELECT[INLINE,])))
-    for node in inlines:
-        tag[node], line_file[node], line[node] = words[6 * node + 3 : 6 * node + 6]
-    places = chain(inlines, compress(range(count), scope.translate(_SELECT[CALL, STMT])))
-    for node in filter(tag.__getitem__, places):
-        line_file[node], line[node] = -1, line_file[node]
-    parent = array("q", [-1 if above == NONE else above for above in words[0::6]])
-    # With its most significant byte first a word compares as bytes do.
-    words = array("I", even)
-    if sys.byteorder == "little":
-        words.byteswap()
-    fields = list(struct.iter_unpack("4x20s", words.tobytes()))
-    return Nodes(parent, scope, operand, line_file, line, fields, start)
+    reader.at = start + 4 * starts[-1]
+    ends = starts[1:]
+    del starts[-1]
+    at_starts, at_ends, nothing = picker(starts), picker(ends), array("I", [0])
+    parent, operand = array("I", at_starts(words)), array("I", at_starts(words[2:]))
+    # A node's last word and the one before it.
+    last, before = array("I", at_ends(nothing + words)), array("I", at_ends(nothing * 2 + words))
+    shape = merged(scope, bytes(map(operator.sub, ends, starts)).translate(_SHIFTED))
+    line_file, line = signed(before, shape.translate(_HAS_NO_FILE)), signed(last, scope.translate(_HAS_NO_LINE))
+    return Nodes(array("i", parent.tobytes()), scope, operand, line_file, line, start)
+
+
+def _starts(words, count):
+    """The word at which each node begins, and the one at which the last ends; as many as there are where one isn't whole
+    or has an unknown kind of line. Scopes that are unknown are taken for statements."""
+    starts, at = [0], 0
+    add = starts.append
+    try:
+        for _ in repeat(None, count):
+            scope = words[at + 1]
+            if scope > INLINE:
+                at += (5, 4)[words[at + 2]]
+            else:
+                at += (6, 5)[words[at + 3]] if scope == INLINE else 3
+            add(at)
+    except IndexError:
+        pass
+    return starts
+
+
+def _scopes(words, starts, count):
+    """The nodes' scopes; nothing where one is unknown, or a node isn't whole."""
+    if len(starts) <= count or starts[-1] > len(words):
+        return None
+    try:
+        scope = bytes(picked(words[1:], starts[:-1]))
+    except ValueError:
+        return None
+    return None if scope and max(scope) > STMT else scope
 
 
 def _refuse_node(reader, count):
@@ -151,10 +160,8 @@ def _read_plane(reader, period):
         raise Malformed(2, reader.at + 16 * whole + (rest // 4 * 4 if rest < 8 else 8))
     data = reader.text(16 * count)
     is_exclusive = data[4::16].translate(_IS_EXCLUSIVE)
-    pairs = numbers("Q", data)
-    # A node with its kind above it: the node itself where the kind is 0.
-    nodes = array("Q", compress(pairs[0::2], is_exclusive))
-    values = array("Q", compress(pairs[1::2], is_exclusive))
+    nodes = array("I", compress(numbers("I", data)[0::4], is_exclusive))
+    values = array("Q", compress(numbers("Q", data)[1::2], is_exclusive))
     samples = array("Q", [value // period for value in values] if period else values)
     return Plane(offset, data, nodes, values, samples)
 

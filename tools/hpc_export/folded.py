@@ -5,66 +5,92 @@ procedures end by `_[i]`, as flamegraph.pl expects. With places the places of ca
 frames too. Stacks of one text are one line, in the order in which they come first, or by falling cost.
 """
 from .contexts import ROOT_NAMES, Labels, encoded
-from .database import CALL, INLINE, PROC, STMT
+from .database import CALL, INLINE, PROC, ROOT
 
 
 def write(out, database, options):
-    above, frames, costs = _stacks(database, options)
-    stacks = [stack for stack, cost in enumerate(costs) if cost]
-    if options.by_cost:
-        stacks.sort(key=costs.__getitem__, reverse=True)
-    for stack in stacks:
-        out.write(encoded(f"{_text(above, frames, stack)} {costs[stack]}\n"))
-
-
-def _stacks(database, options):
-    """The distinct stacks: for each the stack above it (-1 where there is none), its last frame and its cost.
-
-    A stack has a number, which its last frame and the number of what is above it give. So the text of a stack is made
-    only where it is written.
-    """
-    nodes, kept = database.nodes, options.shown.kept(database, options.min_percent)
-    frame_of = _Frames(database)
-    numbers, above, frames, costs = {}, [], [], []
-    stack_of = [-1] * (len(nodes) + 1)
-    below = STMT + 1 if options.with_places else CALL
-    for node, (parent, scope, keeps) in enumerate(zip(nodes.parent, nodes.scope, kept)):
-        stack = stack_of[parent]
-        if scope < below and keeps:
-            frame = frame_of[node] if scope >= CALL else frame_of[scope, nodes.operand[node]]
-            key = stack, frame
-            found = numbers.get(key)
-            if found is None:
-                found = numbers[key] = len(above)
-                above.append(stack)
-                frames.append(frame)
-            stack = found
-        stack_of[node] = stack
+    frames = _Frames(database)
+    above, last, stack_of = _stacks(database.nodes, _frames_of(database, options, frames), len(frames.texts))
     costs = [0] * len(above)
     for node, value in options.shown.sampled(database):
         costs[stack_of[node]] += value
-    return above, frames, costs
+    stacks = [stack for stack, cost in enumerate(costs) if cost]
+    if options.by_cost:
+        stacks.sort(key=costs.__getitem__, reverse=True)
+    texts = _texts(stacks, above, list(map(frames.texts.__getitem__, last)))
+    out.writelines(b"%b %d\n" % line for line in zip(texts, map(costs.__getitem__, stacks)))
 
 
-class _Frames(dict):
-    """The text of a frame, by a scope and its procedure, or for a place by its node."""
+class _Frames:
+    """The distinct texts of frames. A frame is the number of its text."""
 
     def __init__(self, database):
-        super().__init__()
-        self.labels = Labels(database)
-        for place, name in enumerate(self.labels.procedures):
-            self[PROC, place] = name.replace(";", ":")
-            self[INLINE, place] = name.replace(";", ":") + "_[i]"
+        self.labels, self.texts, self.numbers = Labels(database), [], {}
+        names = [name.replace(";", ":") for name in self.labels.procedures]
+        self.of_scope = {
+            ROOT: list(map(self.number, ROOT_NAMES)),
+            PROC: list(map(self.number, names)),
+            INLINE: [self.number(name + "_[i]") for name in names],
+        }
 
-    def __missing__(self, key):
-        if isinstance(key, tuple):
-            return ROOT_NAMES[key[1]]
-        return self.labels[key].replace(";", ":")
+    def number(self, text):
+        text = encoded(text)
+        found = self.numbers.setdefault(text, len(self.texts))
+        if found == len(self.texts):
+            self.texts.append(text)
+        return found
+
+    def of_place(self, node):
+        return self.number(self.labels[node].replace(";", ":"))
 
 
-def _text(above, frames, stack):
-    names = []
-    while stack >= 0:
-        names.append(frames[stack])
-        stack = above[stack]
-    return ";".join(reversed(names))
+def _frames_of(database, options, frames):
+    """Each node's frame, or -1 where it is none."""
+    nodes = database.nodes
+    found = [
+        frames.of_scope[scope][operand] if scope < CALL else -1 for scope, operand in zip(nodes.scope, nodes.operand)
+    ]
+    if options.with_places:
+        for node, scope in enumerate(nodes.scope):
+            if scope >= CALL:
+                found[node] = frames.of_place(node)
+    if options.min_percent:
+        for node, keeps in enumerate(options.shown.kept(database, options.min_percent)):
+            if not keeps:
+                found[node] = -1
+    return found
+
+
+def _stacks(nodes, frames, count):
+    """The distinct stacks, of so many frames: for each the stack above it (-1 where there is none) and its last frame; and
+    for each node the stack down to it. A stack is known by its last frame and the one above it."""
+    numbers, above, last = {}, [], []
+    stack_of = [-1] * (len(nodes) + 1)
+    for node, (parent, frame) in enumerate(zip(nodes.parent, frames)):
+        stack = stack_of[parent]
+        if frame >= 0:
+            found = numbers.setdefault(stack * count + frame, len(above))
+            if found == len(above):
+                above.append(stack)
+                last.append(frame)
+            stack = found
+        stack_of[node] = stack
+    return above, last, stack_of
+
+
+def _texts(stacks, above, frames):
+    """The texts of stacks, one after another. Those of the last stack and of all above it are at hand."""
+    path, texts, depths = [], [], []
+    for stack in above:
+        depths.append(depths[stack] + 1 if stack >= 0 else 0)
+    for stack in stacks:
+        below = []
+        while stack >= 0 and not (depths[stack] < len(path) and path[depths[stack]] == stack):
+            below.append(stack)
+            stack = above[stack]
+        kept = depths[stack] + 1 if stack >= 0 else 0
+        del path[kept:], texts[kept:]
+        for stack in reversed(below):
+            texts.append(texts[-1] + b";" + frames[stack] if texts else frames[stack])
+            path.append(stack)
+        yield texts[-1]

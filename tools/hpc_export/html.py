@@ -6,12 +6,14 @@ and in base64; the names are JSON, and so are the sources that were found, defla
 import base64
 import json
 import re
-import sys
 import zlib
 from array import array
+from itertools import compress
 from pathlib import Path
 
+from .columns import numbers, packed, whole
 from .contexts import readable
+from .database import ROOT
 
 FOLDER = Path(__file__).with_name("page")
 # One script of the page each, in this order.
@@ -19,6 +21,9 @@ SCRIPTS = (
     "profile.js", "shown.js", "graph.js", "colors.js", "icicle.js", "rows.js", "tables.js", "grid.js", "search.js",
     "source.js", "filters.js", "panes.js", "link.js", "view.js", "main.js",
 )
+
+
+_IS_ROOT = bytes(scope == ROOT for scope in range(256))
 
 
 def write(out, database, options):
@@ -76,17 +81,19 @@ def _sources(database, options):
 def _columns(database, options):
     """Columns of 4 bytes each: how far the parent stands before (0 where there is none), operand, file of the line (-1
     where there is none), line; for each hart its nodes and counts; and at last the scopes of a byte each."""
-    nodes = database.nodes
-    parent = [node - above if above >= 0 else 0 for node, above in enumerate(nodes.parent)]
-    columns = [array("i", column) for column in (parent, nodes.operand, nodes.line_file)]
-    columns.append(array("I", [line if line > 0 else 0 for line in nodes.line]))
+    nodes, count = database.nodes, len(database.nodes)
+    own, parent = array("I", range(count)), array("i", nodes.parent)
+    for root in compress(own, nodes.scope.translate(_IS_ROOT)):
+        parent[root] = root
+    steps = (whole(packed(own)) - whole(packed(parent))).to_bytes(4 * count, "little")
+    line_file, line = (numbers("I", packed(column)) for column in (nodes.line_file, nodes.line))
+    # The upper half of -1 is ones, which leaves 0.
+    lines = (whole(packed(line[0::2])) & ~whole(packed(line[1::2]))).to_bytes(4 * count, "little")
+    columns = [steps, packed(nodes.operand), packed(line_file[0::2]), lines]
     for hart in options.shown.harts:
         plane = database.planes[hart]
-        columns += array("I", plane.node), array("I", plane.samples)
-    if sys.byteorder == "big":
-        for column in columns:
-            column.byteswap()
-    return [column.tobytes() for column in columns] + [nodes.scope]
+        columns += packed(plane.node), packed(array("I", plane.samples))
+    return columns + [nodes.scope]
 
 
 def _packed(parts):

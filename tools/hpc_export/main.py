@@ -2,6 +2,7 @@
 import argparse
 import contextlib
 import gc
+import io
 import os
 import stat
 import sys
@@ -12,7 +13,7 @@ from typing import List
 from . import callgrind, folded, html, linkage_names, measurement, source, speedscope
 from .contexts import Shown
 from .database import Malformed
-from .reader import read
+from .reader import begin
 from .sources import Sources
 
 WRITERS = {"folded": folded, "speedscope": speedscope, "callgrind": callgrind, "html": html, "source": source}
@@ -98,20 +99,22 @@ def _read_file(name):
 
 
 @contextlib.contextmanager
-def _opened(name):
-    """A file to write to. A regular file takes its name only when it is whole, so that the old one stays until then."""
-    if name is None:
-        yield sys.stdout.buffer
-        return
-    if os.path.exists(name) and not stat.S_ISREG(os.stat(name).st_mode):
-        with open(name, "wb") as file:
-            yield file
+def _opened(name, finish):
+    """A file to write to. Nothing is seen of what is written until `finish` has returned. A regular file takes its name
+    only when it is whole, so that the old one stays until then."""
+    if name is None or os.path.exists(name) and not stat.S_ISREG(os.stat(name).st_mode):
+        written = io.BytesIO()
+        yield written
+        finish()
+        with open(sys.stdout.fileno() if name is None else name, "wb", closefd=name is not None) as file:
+            file.write(written.getbuffer())
         return
     target = os.path.realpath(name)
     descriptor, beside = tempfile.mkstemp(dir=os.path.dirname(target), prefix=".hpc-export.")
     try:
         with open(descriptor, "wb") as file:
             yield file
+        finish()
         os.chmod(beside, os.stat(target).st_mode & 0o777 if os.path.exists(target) else 0o666 & ~_umask())
         os.replace(beside, target)
     except BaseException:
@@ -125,11 +128,24 @@ def _umask():
     return mask
 
 
-def _database(words):
+def _begun(words):
+    """The database, and what waits until all of it is checked."""
     try:
-        database = read(_read_file(words.database))
+        database, finish = begin(_read_file(words.database))
     except Malformed as error:
         raise Refused(MALFORMED, f"{words.database}: {error}") from error
+
+    def finish_refusing():
+        try:
+            finish()
+        except Malformed as error:
+            raise Refused(MALFORMED, f"{words.database}: {error}") from error
+
+    return database, finish_refusing
+
+
+def _named(words, database):
+    """The database with the names that the user wants."""
     if words.elf is None:
         return database
     try:
@@ -188,12 +204,10 @@ def _check_words(words):
         raise Refused(INVALID, "source wants a FILE" if words.format == "source" else f"{words.format} takes no FILE")
 
 
-def _export(words):
-    _check_words(words)
-    database = _database(words)
+def _write(words, database, finish):
     options = _options(words, database)
     try:
-        with _opened(words.output) as out:
+        with _opened(words.output, finish) as out:
             WRITERS[words.format].write(out, database, options)
             out.flush()
     except source.NotFound as error:
@@ -203,6 +217,17 @@ def _export(words):
         sys.stdout = None
     except OSError as error:
         raise Refused(DEVICE, f"{words.output or 'standard output'}: {error.strerror}") from error
+
+
+def _export(words):
+    _check_words(words)
+    database, finish = _begun(words)
+    try:
+        _write(words, _named(words, database), finish)
+    except Refused:
+        # That the database is malformed is said before all else.
+        finish()
+        raise
 
 
 def main():

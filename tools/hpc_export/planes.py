@@ -1,118 +1,150 @@
 """Rules 6 and 7: both planes are what the exclusive values give.
 
-The sums of all harts are found in one walk over the nodes: a node's are one number, in which each kind has 64 bits for
-each hart. There are at most 2^20 samples and periods are below 2^32, so no sum touches the next. From these sums the
-context plane is made anew and compared as bytes, and each entry of the profile plane is looked up.
+The samples of all harts are added up in one walk over the nodes: a node's are one number, with 32 bits for each hart.
+There are at most 2^20 samples, so no sum touches the next. With these sums each plane is compared as a whole, of many
+nodes by a process of its own, while this one begins to write the export.
 """
-import operator
 import struct
-import sys
 from array import array
-from itertools import islice, repeat
+from itertools import repeat
 
-from .database import EXCLUSIVE, INCLUSIVE, PROC, STMT, Malformed, numbers
+from .background import asked
+from .columns import ascend, numbers, packed, picked, whole, widened
+from .database import EXCLUSIVE, FRAME, INCLUSIVE, PROC, STMT, Malformed
 from .fields import need_context
 
 MOST_SAMPLES = 1 << 20
-WIDTH = 64
+WIDTH = 32
+# So many nodes are worth a process.
+MANY = 1 << 16
 
 
-def check_planes(database):
-    if _are_samples(database):
-        sums = _sums(database)
-        context = b"".join(map(_Entries(database.harts).__getitem__, sums))
-        entries = (len(context) - 4 * len(sums)) // 16
-        if sum(len(plane.data) for plane in database.planes) == 16 * entries and _are_planes(database, sums):
-            if context != database.context.data:
-                need_context(database)
-                _find_context(database, sums)
-            return
-    _find_profile(database)
+def begin_planes(database):
+    """Refuses exclusive values that aren't samples of statements, and begins to ask of the rest; gives what waits for the
+    answer and refuses the first place that breaks a rule."""
+    if not _are_samples(database):
+        _find_profile(database)
+    is_large = len(database.nodes) >= MANY
+    answers = [
+        asked(lambda: _is_profile(database, _sums(database)), is_large),
+        asked(lambda: _is_context(database, _sums(database)), is_large),
+    ]
+
+    def finish():
+        # Asked again, there is nothing left to wait for.
+        found = [answers.pop()() for _ in range(len(answers))]
+        if not all(found):
+            need_context(database)
+            _find_profile(database)
+            _find_context(database)
+
+    return finish
 
 
 def _are_samples(database):
-    """Whether the exclusive values are numbers of samples at statements, each of which has some."""
-    nodes, planes, sampled = database.nodes, database.planes, set()
-    for plane in planes:
-        if plane.node and (max(plane.node) >= len(nodes) or min(plane.value) == 0):
-            return False
-        # Remainders of the division aren't negative: their sum is 0 where each of them is.
-        if sum(plane.samples) * database.period != sum(plane.value):
-            return False
-        sampled.update(plane.node)
-    statements = nodes.scope.count(STMT)
+    """Whether the exclusive values are numbers of samples at statements, and all are few enough for the sums."""
+    planes, nodes = database.planes, database.nodes
     return (
-        sum(sum(plane.samples) for plane in planes) <= MOST_SAMPLES
-        and set(map(nodes.scope.__getitem__, sampled)) <= {STMT}
-        and len(sampled) == statements
+        all(not plane.node or max(plane.node) < len(nodes) for plane in planes)
+        and all(0 not in plane.value for plane in planes)
+        and all(set(picked(nodes.scope, plane.node)) <= {STMT} for plane in planes)
+        and all(whole(packed(plane.samples)) * database.period == whole(packed(plane.value)) for plane in planes)
+        and sum(sum(plane.samples) for plane in planes) <= MOST_SAMPLES
     )
 
 
+def _half(database):
+    """The bits of the harts' samples of one kind."""
+    return WIDTH * database.harts
+
+
 def _sums(database):
-    """Each node's values: by kind, and of each kind by hart."""
-    nodes, harts = database.nodes, database.harts
-    sums = [0] * (len(nodes) + 1)
-    kinds = 1 | 1 << WIDTH * harts | 1 << 2 * WIDTH * harts
+    """Each node's samples: the frame ones of each hart, above these the inclusive ones, and above these a bit for a
+    statement, whose exclusive samples are the same."""
+    nodes, half = database.nodes, _half(database)
+    sums = list(map((0, 0, 0, 0, 1 << 2 * half).__getitem__, nodes.scope)) + [0]
     for hart, plane in enumerate(database.planes):
-        one = kinds << WIDTH * hart
-        for node, value in zip(plane.node, plane.value):
-            sums[node] += value * one
-    # What goes up to the node above: the inclusive values, and but from a procedure to its caller the frame values.
-    inclusive = ((1 << WIDTH * harts) - 1) << 2 * WIDTH * harts
-    frame = inclusive | inclusive >> WIDTH * harts
+        one = (1 | 1 << half) << WIDTH * hart
+        for node, samples in zip(plane.node, plane.samples):
+            sums[node] += samples * one
+    # What goes up to the node above: all, but from a procedure to its caller the inclusive samples alone.
+    goes_up = [(1 << 2 * half) - 1] * 5
+    goes_up[PROC] ^= (1 << half) - 1
     node = len(nodes)
-    for parent, scope in zip(reversed(nodes.parent), reversed(nodes.scope)):
+    for parent, part in zip(reversed(nodes.parent), map(goes_up.__getitem__, reversed(nodes.scope))):
         node -= 1
-        sums[parent] += sums[node] & (inclusive if scope == PROC else frame)
+        sums[parent] += sums[node] & part
     # The last one is that above the roots.
     sums.pop()
     return sums
 
 
+def _is_profile(database, sums):
+    """Whether the entries of the profile plane ascend and are these sums. As many are expected as the context plane has."""
+    harts, length = database.harts, len(database.context.data) - 4 * len(sums)
+    fields = 2 * harts + 1
+    counts = numbers("I", b"".join(map(int.to_bytes, sums, repeat(4 * fields), repeat("little"))))
+    return sum(len(plane.data) for plane in database.planes) == length and all(
+        _is_plane(database, hart, counts, fields) for hart in range(harts)
+    )
+
+
+def _is_plane(database, hart, counts, fields):
+    """Whether the entries of a hart ascend, and are these counts of samples, so many to a node. Exclusive ones are known
+    to be at statements, where they are the frame's."""
+    plane, harts = database.planes[hart], database.harts
+    words, kinds = numbers("I", plane.data), plane.data[4::16]
+    if packed(words[1::4]) != widened(kinds) or not set(kinds) <= {EXCLUSIVE, FRAME, INCLUSIVE}:
+        return False
+    nodes, values = words[0::4], numbers("Q", plane.data)[1::2]
+    column, count = whole(packed(nodes)), len(nodes)
+    if max(nodes, default=-1) >= len(database.nodes) or not ascend(column << 2 | whole(widened(kinds)), count):
+        return False
+    place_of = bytes([hart, hart, harts + hart]).ljust(256, b"\0")
+    places = column * fields + whole(widened(kinds.translate(place_of)))
+    found = array("Q", picked(counts, numbers("I", places.to_bytes(4 * count, "little"))))
+    return whole(packed(found)) * database.period == whole(packed(values))
+
+
+def _is_context(database, sums):
+    """Whether the context plane is that of these sums, and each statement has samples."""
+    parts = _Parts(database)
+    if b"".join(map(parts.__getitem__, sums)) != database.context.data:
+        return False
+    # Of a statement without samples the sums are this bit alone.
+    return 1 << 2 * _half(database) not in parts
+
+
 class _Entries(dict):
-    """By a node's sums the bytes of its part of the context plane. Many nodes have the same."""
+    """By a number of samples the entry of the context plane that begins with these bytes."""
 
-    def __init__(self, harts):
+    def __init__(self, head, period):
         super().__init__()
-        self.values = struct.Struct("8s" * 3 * harts)
-        self.heads = [struct.pack("<II", kind, hart) for kind in range(3) for hart in range(harts)]
+        self.head, self.period = head, period
 
-    def __missing__(self, sums):
-        values = self.values.unpack(sums.to_bytes(self.values.size, "little"))
-        entries = [head + value for head, value in zip(self.heads, values) if value != _ZERO]
-        found = self[sums] = len(entries).to_bytes(4, "little") + b"".join(entries)
+    def __missing__(self, samples):
+        found = self[samples] = self.head + (samples * self.period).to_bytes(8, "little")
         return found
 
 
-_ZERO = bytes(8)
+class _Parts(dict):
+    """By a node's sums its part of the context plane. Many nodes have the same."""
 
+    def __init__(self, database):
+        super().__init__()
+        harts = range(database.harts)
+        self.exclusive, *kinds = (
+            [_Entries(struct.pack("<II", kind, hart), database.period) for hart in harts] for kind in range(3)
+        )
+        self.others = kinds[0] + kinds[1]
+        self.fields = struct.Struct(f"<{len(self.others)}II")
 
-def _are_planes(database, sums):
-    """Whether the entries of the profile plane ascend, aren't 0, and are these sums."""
-    harts, size = database.harts, 3 * WIDTH // 8 * database.harts
-    values = numbers("Q", b"".join(map(int.to_bytes, sums, repeat(size), repeat("little"))))
-    for hart, plane in enumerate(database.planes):
-        nodes, kinds, found = plane.columns()
-        if not nodes:
-            continue
-        if max(kinds) > INCLUSIVE or max(nodes) >= len(sums) or min(found) == 0:
-            return False
-        places = _scaled(nodes, 3 * harts, kinds, harts, hart)
-        if not all(map(operator.lt, places, islice(places, 1, None))):
-            return False
-        if array("Q", map(values.__getitem__, places)) != found:
-            return False
-    return True
-
-
-def _scaled(left, left_factor, right, right_factor, plus):
-    """left * left_factor + right * right_factor + plus of each pair: a column is one number with 8 bytes a place, so
-    that one multiplication does all."""
-    count = len(left)
-    whole = [int.from_bytes(numbers("Q", array("Q", column).tobytes()).tobytes(), "little") for column in (left, right)]
-    ones = int.from_bytes((1).to_bytes(8, "little") * count, "little")
-    total = whole[0] * left_factor + whole[1] * right_factor + ones * plus
-    return numbers("Q", total.to_bytes(8 * count, "little"))
+    def __missing__(self, sums):
+        *counts, is_stmt = self.fields.unpack(sums.to_bytes(self.fields.size, "little"))
+        entries = [entry[count] for entry, count in zip(self.exclusive, counts) if count] if is_stmt else []
+        entries += [entry[count] for entry, count in zip(self.others, counts) if count]
+        found = self[sums] = len(entries).to_bytes(4, "little") + b"".join(entries)
+        return found
 
 
 # ---- the first place that breaks rule 6
@@ -129,7 +161,6 @@ def _find_profile(database):
     for node, kind in enumerate(nodes.scope):
         if kind == STMT and node not in sampled:
             raise Malformed(6, nodes.offset_of(node))
-    raise AssertionError("a profile plane that breaks no rule")
 
 
 def _check_entries(database, plane, entries, samples):
@@ -177,15 +208,14 @@ def _find_difference(nodes, plane, entries):
 # ---- the first place that breaks rule 7
 
 
-def _find_context(database, sums):
-    start, data, entries = database.context.offset, database.context.data, _Entries(database.harts)
+def _find_context(database):
+    start, data, parts = database.context.offset, database.context.data, _Parts(database)
     at = 0
-    for sum_ in sums:
-        part = entries[sum_]
+    for sums in _sums(database):
+        part = parts[sums]
         for word in range(0, len(part), 4):
             if data[at + word : at + word + 4] != part[word : word + 4]:
                 # The second word of a value belongs to the field that begins at the first; a node's number of entries
                 # stands before them.
                 raise Malformed(7, start + at + word - (4 if word and word % 16 == 0 else 0))
         at += len(part)
-    raise AssertionError("two equal context planes")

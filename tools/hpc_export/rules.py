@@ -11,30 +11,31 @@
 Each rule is tried over the whole file before the next. Of rules 5 to 7 it is first asked, of whole columns, whether
 they hold; where one doesn't, a second and plain reading finds the first place that breaks it.
 """
-from itertools import compress
+from array import array
+from itertools import compress, islice
 
+from .columns import merged, numbers, packed, picked, spread, whole, widened
 from .database import CALL, INLINE, NAMELESS, PROC, ROOT, STMT, Malformed
 from .fields import need_context, read_fields
-from .planes import check_planes
+from .planes import begin_planes
 
 MOST_NAME = 4096
 MOST_HARTS = 16
 
 
-def read(data):
-    """The database that these bytes are, or Malformed."""
+def begin(data):
+    """The database that these bytes are, or Malformed; and what waits until rules 6 and 7 are checked, and raises that."""
     database = read_fields(data)
     try:
         _check_head(database)
         _check_names(database)
         if not _are_nodes(database):
             _find_broken_node(database)
-        check_planes(database)
+        return database, begin_planes(database)
     except Malformed:
         # A context plane that is what the samples give is whole. Of any other that is asked first.
         need_context(database)
         raise
-    return database
 
 
 # ---- rules 3 and 4: the head and the names
@@ -49,7 +50,7 @@ def _check_head(database):
 
 def _check_names(database):
     nodes = database.nodes
-    called = set(compress(nodes.operand, nodes.scope.translate(_OF_SCOPES[PROC, INLINE])))
+    called = set(compress(nodes.operand, nodes.scope.translate(_IS_CALLED)))
     before = (-1, -1)
     for place, entry in enumerate(database.procedures):
         is_nameless = entry.kind == NAMELESS
@@ -77,68 +78,84 @@ def _table(*scopes):
     return bytes(scope in scopes for scope in range(256))
 
 
-_OF_SCOPES = {scopes: _table(*scopes) for scopes in ((PROC, INLINE), (ROOT,))}
+_IS_ROOT, _IS_STMT, _IS_CALLED = _table(ROOT), _table(STMT), _table(PROC, INLINE)
+_ARE_OPEN = bytes(255 * (scope != STMT) for scope in range(256))
 
 # Which scopes a scope may stand under.
 UNDER = {PROC: (ROOT, CALL), INLINE: (PROC, INLINE), CALL: (PROC, INLINE), STMT: (PROC, INLINE)}
 _NOTHING = 5
-_ABOVE = {(above, scope) for scope, scopes in UNDER.items() for above in scopes} | {(_NOTHING, ROOT)}
+_ABOVE = {above << 3 | scope for scope, scopes in UNDER.items() for above in scopes} | {_NOTHING << 3 | ROOT}
+_SHIFTED = bytes((scope & 7) << 3 for scope in range(256))
+# Of scopes that may be siblings: which comes first.
+_RANK = bytes(max(scope - INLINE, 0) & 3 for scope in range(256))
 
 
 def _are_nodes(database):
-    """Whether rule 5 holds."""
-    nodes, count = database.nodes, len(database.nodes)
-    if not count:
+    """Whether rule 5 holds. Where that isn't told, of more names than keys have room for, the answer is no."""
+    nodes = database.nodes
+    if not nodes:
         return True
-    parents, scope = nodes.parent.tolist(), nodes.scope
-    if max(parents) >= count:
-        return False
-    # The scope that stands above: for a root, whose parent is -1, what stands behind the last.
-    above = map((scope + bytes([_NOTHING])).__getitem__, parents)
-    roots = max(compress(nodes.operand, scope.translate(_OF_SCOPES[ROOT,])), default=0)
-    called = max(compress(nodes.operand, scope.translate(_OF_SCOPES[PROC, INLINE])), default=-1)
+    roots = max(compress(nodes.operand, nodes.scope.translate(_IS_ROOT)), default=0)
+    called = max(compress(nodes.operand, nodes.scope.translate(_IS_CALLED)), default=-1)
     return (
-        set(zip(above, scope)) <= _ABOVE
-        and roots <= 1
+        roots <= 1
         and called < len(database.procedures)
         and max(nodes.line_file) < len(database.files)
-        and _stand_in_preorder(nodes, parents)
+        and _first_children_follow(nodes)
+        and _siblings_ascend(nodes, _keys(database))
+        and _stand_under(nodes)
     )
 
 
-def _ends(parents):
-    """For each node the first one behind all that lie below it, where they stand in preorder."""
-    end = [0] * (len(parents) + 1)
-    node = len(parents)
-    for parent in reversed(parents):
-        node -= 1
-        if not end[node]:
-            end[node] = node + 1
-        if not end[parent]:
-            end[parent] = end[node]
-    return end
+def _first_children_follow(nodes):
+    """Whether the first node has no parent, and each but a statement is the parent of the next one."""
+    next_parents, own = whole(packed(nodes.parent)) >> 32, whole(packed(array("I", range(len(nodes)))))
+    is_open = whole(spread(nodes.scope.translate(_ARE_OPEN)))
+    return nodes.parent[0] == -1 and nodes.scope[-1] == STMT and not (next_parents ^ own) & is_open
 
 
-def _stand_in_preorder(nodes, parents):
-    """Whether each node follows its parent or the end of the sibling before it, siblings ascend, and each node but a
-    statement has a child."""
-    fields, end = nodes.fields, _ends(parents)
-    # The last child so far of each node; that of -1 is the last root.
-    last, first_children = [-1] * (len(parents) + 1), 0
-    for node, parent in enumerate(parents):
-        before = last[parent]
-        last[parent] = node
-        if before < 0:
-            first_children += 1
-            if parent != node - 1:
+def _keys(database):
+    """For each node a number, which ascends as siblings do; none where that has more than 64 bits."""
+    nodes, of_file = database.nodes, len(database.files).bit_length()
+    if of_file + len(database.procedures).bit_length() > 29:
+        return None
+    words = numbers("I", packed(nodes.line_file))
+    file, is_none = whole(packed(words[0::2])), packed(words[1::2])
+    # Both are ones where there is no file.
+    upper = file ^ whole(is_none) | whole(widened(is_none[0::4].translate(_IS_ONES))) << of_file
+    upper |= whole(packed(nodes.operand)) << of_file + 1 | whole(widened(nodes.scope.translate(_RANK))) << 30
+    pairs = numbers("I", packed(nodes.line))
+    pairs[1::2] = numbers("I", upper.to_bytes(4 * len(nodes), "little"))
+    return numbers("Q", packed(pairs))
+
+
+_IS_ONES = bytes(255) + bytes([1])
+
+
+def _siblings_ascend(nodes, keys):
+    """Whether the parent of a node behind a statement is above that, and the sibling before it has a lesser key."""
+    if keys is None:
+        return False
+    parent, is_stmt = nodes.parent, nodes.scope.translate(_IS_STMT)
+    for before, above in zip(compress(range(len(nodes) - 1), is_stmt), compress(islice(parent, 1, None), is_stmt)):
+        key = keys[before + 1]
+        while parent[before] != above:
+            before = parent[before]
+            if before < 0:
                 return False
-        elif end[before] != node or fields[before] >= fields[node]:
+        if keys[before] >= key:
             return False
-    # One of them is the first root.
-    return first_children - 1 == len(nodes) - nodes.scope.count(STMT)
+    return True
+
+
+def _stand_under(nodes):
+    """Whether each scope may stand under its parent's. That of a root, -1, is behind the last."""
+    above = bytes(picked(nodes.scope + bytes([_NOTHING]), nodes.parent))
+    return set(merged(above.translate(_SHIFTED), nodes.scope)) <= _ABOVE
 
 
 def _find_broken_node(database):
+    """Refuses the first node that breaks rule 5, if one does."""
     nodes = database.nodes
     scope, operand, line_file, line = nodes.scope, nodes.operand, nodes.line_file, nodes.line
     procedures, files = len(database.procedures), len(database.files)
@@ -159,7 +176,7 @@ def _find_broken_node(database):
         if not (
             bool(path) == (parent >= 0)
             and before < order
-            and (parent < 0 if kind == ROOT else path and scope[parent] in UNDER[kind])
+            and (parent == -1 if kind == ROOT else path and scope[parent] in UNDER[kind])
             and (kind != ROOT or operand[node] <= 1)
             and (kind not in (PROC, INLINE) or operand[node] < procedures)
             and line_file[node] < files
@@ -172,4 +189,3 @@ def _find_broken_node(database):
             roots_last = order
         path.append(node)
         last.append(())
-    raise AssertionError("nodes that break no rule")

@@ -3,8 +3,9 @@
 `inclusive` counts each sample once whose call path has a scope at the line: a statement, a call, or a call that was
 inlined there. `exclusive` counts those whose statement is at the line. A line without samples has `.`.
 """
+from itertools import compress
+
 from .contexts import encoded, ends, readable
-from .database import INLINE
 
 HEAD = f"{'inclusive':>16} {'%':>6} {'exclusive':>16} {'%':>6} {'line':>7}  text\n"
 
@@ -54,14 +55,14 @@ def _places(database, wanted):
 
 def line_costs(database, shown, places):
     """The inclusive and exclusive value of each line of these files."""
-    nodes, end = database.nodes, ends(database.nodes)
-    inclusive, exclusive = shown.inclusive(database), shown.exclusive(database)
+    nodes, inclusive, exclusive = database.nodes, shown.inclusive(database), shown.exclusive(database)
+    rows = zip(range(len(nodes)), nodes.line, inclusive, exclusive, ends(nodes))
     costs, covered = {}, {}
-    for node, (file, scope, line) in enumerate(zip(nodes.line_file, nodes.scope, nodes.line)):
-        if file in places and scope >= INLINE and inclusive[node]:
+    for node, line, with_calls, alone, end in compress(rows, map(places.__contains__, nodes.line_file)):
+        if with_calls:
             all_, own = costs.get(line, (0, 0))
             if node >= covered.get(line, 0):
-                covered[line] = end[node]
-                all_ += inclusive[node]
-            costs[line] = all_, own + exclusive[node]
+                covered[line] = end
+                all_ += with_calls
+            costs[line] = all_, own + alone
     return costs

@@ -5,9 +5,11 @@ met and closes behind the last, and the time is the cost so far. So the file gro
 paths' lengths. A frame that would close and open again at once stays open.
 """
 import json
+from itertools import compress
 
-from .contexts import Labels, is_place, readable
-from .database import CALL, INLINE
+from .columns import packed, picked
+from .contexts import Labels, readable
+from .database import CALL, INLINE, STMT
 
 SCHEMA = "https://www.speedscope.app/file-format-schema.json"
 
@@ -34,70 +36,95 @@ def _json(value):
     return json.dumps(value, separators=(",", ":")).encode()
 
 
+_IS_OPEN = bytes(scope < STMT for scope in range(256))
+_IS_ZERO = bytes([1]) + bytes(255)
+
+
 class _Frames:
-    """The frames' table; for each node its frame (-1 where it is none), the nearest node at or above it with a frame,
-    and the number of frames above that."""
+    """The frames' table. For each node its frame (-1 where it is none); the nearest node at or above it with a frame (-1
+    where there is none), but of a statement that has none; and for a node with a frame the nearest above it, and how many
+    are above."""
 
     def __init__(self, database, options):
         self.nodes, self.labels = database.nodes, Labels(database, readable)
-        self.table, self.of, self.nearest = [], [], [-1] * (len(self.nodes) + 1)
-        self.depth = []
-        kept = options.shown.kept(database, options.min_percent)
-        numbers, nodes = {}, self.nodes
-        for node, (parent, scope, line_file, keeps) in enumerate(zip(nodes.parent, nodes.scope, nodes.line_file, kept)):
-            above = self.nearest[parent]
-            if line_file >= 0:
-                # A procedure's file is that of the first place in it.
-                found = self.table[self.of[above]]
-                if "file" not in found:
-                    found["file"] = self.labels.files[line_file]
-            if keeps and (scope < CALL or options.with_places):
-                key = (scope, line_file, nodes.line[node]) if scope >= CALL else (scope, nodes.operand[node])
-                if key not in numbers:
-                    numbers[key] = len(self.table)
-                    self.table.append(self.frame(node))
-                self.of.append(numbers[key])
-                self.nearest[node] = node
-                self.depth.append(self.depth[above] + 1 if above >= 0 else 0)
-            else:
-                self.of.append(-1)
-                self.nearest[node] = above
-                self.depth.append(-1)
+        self.with_places = options.with_places
+        nothing = [-1] * (len(self.nodes) + 1)
+        self.table, self.of, self.nearest, self.above, self.depth = [], nothing, nothing[:], nothing[:], nothing[:]
+        self._number(options.shown.kept(database, options.min_percent))
+        self._find_files()
+
+    def _number(self, kept):
+        """Gives each node its frame, in the order in which frames come first."""
+        nodes, numbers, nearest, depth = self.nodes, {}, self.nearest, self.depth
+        rows = zip(range(len(nodes)), nodes.parent, nodes.scope, nodes.operand, kept)
+        for node, parent, scope, operand, keeps in rows if self.with_places else self._opens(rows):
+            above = nearest[parent]
+            if not keeps or scope >= CALL and not self.with_places:
+                nearest[node] = above
+                continue
+            key = (scope, operand) if scope < CALL else (scope, nodes.line_file[node], nodes.line[node])
+            frame = numbers.setdefault(key, len(self.table))
+            if frame == len(self.table):
+                self.table.append(self.frame(node))
+            self.of[node], nearest[node], self.above[node], depth[node] = frame, node, above, depth[above] + 1
+
+    def _opens(self, rows):
+        return compress(rows, self.nodes.scope.translate(_IS_OPEN))
+
+    def _find_files(self):
+        """A frame without a file has that of the first place in it."""
+        nodes = self.nodes
+        # Of -1 the highest byte isn't 0.
+        has_file = packed(nodes.line_file)[7::8].translate(_IS_ZERO)
+        frames = picked(self.of, picked(self.nearest, list(compress(nodes.parent, has_file))))
+        files = list(compress(nodes.line_file, has_file))
+        # Of two the first one stays.
+        for frame, file in dict(zip(reversed(frames), reversed(files))).items():
+            self.table[frame].setdefault("file", self.labels.files[file])
 
     def frame(self, node):
         nodes, labels = self.nodes, self.labels
         if nodes.scope[node] == INLINE:
             return {"name": f"[I] {labels.procedure(node)}"}
-        if is_place(nodes.scope[node]) and nodes.line_file[node] >= 0:
+        if nodes.scope[node] >= CALL and nodes.line_file[node] >= 0:
             return {"name": labels[node], "file": labels.files[nodes.line_file[node]], "line": nodes.line[node]}
         return {"name": labels[node]}
+
+    def sampled(self, plane):
+        """The nearest node with a frame for each sampled statement of a plane."""
+        return picked(self.nearest, plane.node if self.with_places else picked(self.nodes.parent, plane.node))
 
 
 def _events(frames, plane):
     """The events as texts: (O or C, frame, cost so far), each."""
-    nearest, parent, depth, of = frames.nearest, frames.nodes.parent, frames.depth, frames.of
+    above, depth, of = frames.above, frames.depth, frames.of
+    opens, closes = ([f'{{"type":"{kind}","frame":{frame},"at":' for frame in range(len(frames.table))] for kind in "OC")
     path, opened, events, at = [], [], [], 0
-    for sampled, value in zip(plane.node, plane.value):
+
+    def close(level, time):
+        events.extend([closes[frame] + time for frame in reversed(opened[level:])])
+        del opened[level:]
+
+    for node, value in zip(frames.sampled(plane), plane.value):
         # The nodes from the last one that is open down to this one.
-        node, below = nearest[sampled], []
+        below = []
         while node >= 0 and (depth[node] >= len(path) or path[depth[node]] != node):
             below.append(node)
-            node = nearest[parent[node]] if parent[node] >= 0 else -1
-        del path[depth[node] + 1 if node >= 0 else 0 :]
-        for node in reversed(below):
-            level, frame = len(path), of[node]
-            path.append(node)
-            if level < len(opened) and opened[level] == frame:
-                continue
-            _close(events, opened, level, at)
-            opened.append(frame)
-            events.append(f'{{"type":"O","frame":{frame},"at":{at}}}')
-        _close(events, opened, len(path), at)
+            node = above[node]
+        if below or depth[node] + 1 < len(path):
+            time = f"{at}}}"
+            del path[depth[node] + 1 :]
+            for node in reversed(below):
+                level, frame = len(path), of[node]
+                path.append(node)
+                if level < len(opened):
+                    if opened[level] == frame:
+                        continue
+                    close(level, time)
+                opened.append(frame)
+                events.append(opens[frame] + time)
+            if len(path) < len(opened):
+                close(len(path), time)
         at += value
-    _close(events, opened, 0, at)
+    close(0, f"{at}}}")
     return events
-
-
-def _close(events, opened, level, at):
-    while len(opened) > level:
-        events.append(f'{{"type":"C","frame":{opened.pop()},"at":{at}}}')
