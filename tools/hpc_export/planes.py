@@ -103,7 +103,7 @@ def _is_plane(database, hart, counts, fields):
     place_of = bytes([hart, hart, harts + hart]).ljust(256, b"\0")
     places = column * fields + whole(widened(kinds.translate(place_of)))
     found = array("Q", picked(counts, numbers("I", places.to_bytes(4 * count, "little"))))
-    return whole(packed(found)) * database.period == whole(packed(values))
+    return 0 not in found and whole(packed(found)) * database.period == whole(packed(values))
 
 
 def _is_context(database, sums):
