@@ -1,5 +1,5 @@
 -- The one line on the stream of errors.
-use Rattle.std.specs.Prelude.{◌≡◌, ◌⊎◌, ℕ, List, [], ◌++◌, IsTrue, codes, decimal}
+use Rattle.std.specs.Prelude.{◌≡◌, ◌⊎◌, ℕ, List, [], ◌∷◌, ◌++◌, IsTrue, codes, decimal}
 use Rattle.prof_bytes.specs.declared.fail.Memory.{Memory as Token}
 use Rattle.elf_image.specs.declared.fault.ElfRule.{ElfRule}
 use Rattle.elf_image.specs.declared.fault.ElfRule.TheVariants as rules
@@ -98,8 +98,9 @@ line_of (Input fault) = codes "hpc: " ++ fault_text fault ++ codes "\n"
 line_of (Device place) = codes "hpc: " ++ device_text place ++ codes "\n"
 line_of (Memory memory) = codes "hpc: memory\n"
 
--- a front of the line was put, and the whole of it unless a count of failures rose
+-- the line was put once, a front of it is there, and the whole of it unless a count of failures rose
 pub record PutsLine (err err' : SinkState) (line : List ℕ) : Type 0 where
+  pub once : err'.log ≡ err.log ++ line ∷ []
   pub part : IsTrue err.known → AppendsPart err.taken err'.taken line
   pub whole : IsTrue err.known → ¬ Rose err.faults err'.faults → ¬ Rose err.shortages err'.shortages
       → Appends err.taken err'.taken line

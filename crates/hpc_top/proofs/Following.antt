@@ -1,7 +1,10 @@
 -- What follows from the table of answers.
-use Rattle.std.proofs.Common.{◌≡◌, ℕ, Option, Some, None, Result, Ok, Err, IsTrue, IsOk, is_ok, true, false, refl, ap, sym, subst, ◌∙◌}
+use Rattle.std.proofs.Common.{◌≡◌, ℕ, List, [], ◌++◌, Option, Some, None, Result, Ok, Err, IsTrue, IsOk, is_ok, true, false, refl, ap, sym, subst, ◌∙◌}
 use Rattle.std.specs.Prelude.{IsNone, IsSomeAnd}
-use Rattle.prof_devices.specs.Outside.{Rose}
+use Rattle.std.proofs.lemmas.List.{append-nil}
+use Rattle.prof_devices.specs.declared.logs.ShelfCall.{ShelfCall}
+use Rattle.prof_devices.specs.Files.{Files}
+use Rattle.prof_devices.specs.Outside.{ShelfState, SinkState, Rose}
 use Rattle.command_line.specs.declared.status.InputFault.{InputFault}
 use Rattle.command_line.specs.declared.status.Status.{Status}
 use Rattle.command_line.specs.declared.status.Status.TheVariants.{Done, Usage, Input, Device, Memory}
@@ -10,7 +13,7 @@ use Rattle.hpc_top.specs.Product.{Product}
 use Rattle.command_line.specs.Request.{Request}
 use Rattle.command_line.specs.Words.{drill_request}
 use Rattle.hpc_top.specs.Verdict.{verdict}
-use Rattle.hpc_top.specs.Outcome.{Call, Answers, Makes, Finished}
+use Rattle.hpc_top.specs.Outcome.{Call, Answers, Makes, Finished, are_known}
 use Rattle.hpc_top.specs.Follows.{Follows, Drilled, UsageOrMemory, RefusalReadOrMemory, DoneOrMemory, NothingFailed}
 
 -- ---- a verdict is one thing
@@ -31,19 +34,29 @@ module _ (call : Call) where
   done None row = absurd row
   done (Some request) row = row
 
-  drill : (asked : Option Request) (number workers : ℕ) → Answers asked call Done → asked ≡ Some (drill_request number workers) → IsTrue call.before.shelf.known → IsTrue call.before.out.known → Drilled number call
-  drill asked number workers row is told shown =
+  drill : (asked : Option Request) (number workers : ℕ) → Answers asked call Done → asked ≡ Some (drill_request number workers) → Drilled number call
+  drill asked number workers row is =
       let made : Makes (drill_request number workers) Finished call = subst (λ (a : Option Request). Answers a call Done) is row in
-      record { product = made.0; of_guest = made.1 told; files = made.2.0 told; out = made.2.2 shown }
+      let before : ShelfState = call.before.shelf in
+      record {
+        product = made.0;
+        of_guest = made.1 refl;
+        shelf =
+            made.2.1
+            ∙ ap (λ (files : Files). let s : ShelfState = record before { files = files; log = before.log ++ [] } in s) made.2.0
+            ∙ ap (λ (log : List ShelfCall). let s : ShelfState = record before { log = log } in s) (append-nil before.log);
+        once = ap (λ (o : SinkState). o.log) made.2.3;
+        out = made.2.2;
+      }
 
   usage : (asked : Option Request) → Answers asked call Usage → IsNone asked
   usage None row = refl
   usage (Some request) row = absurd row
 
   input : (asked : Option Request) (fault : InputFault) → Answers asked call (Input fault)
-      → IsSomeAnd asked (λ request. IsTrue call.before.shelf.known → verdict request call.before.shelf.files ≡ Err fault)
+      → IsSomeAnd asked (λ request. IsTrue (are_known request.reads call.before.shelf) → verdict request call.before.shelf.files ≡ Err fault)
   input None fault row = absurd row
-  input (Some request) fault row = row.1
+  input (Some request) fault row = row.3
 
   read : (asked : Option Request) → Answers asked call (Device Read) → Rose call.before.shelf.reads.count call.after.shelf.reads.count
   read None row = absurd row
@@ -66,11 +79,11 @@ module _ (call : Call) where
   invalid (Input fault) row = row
   invalid (Device place) row = row
 
-  module _ (request : Request) (told : IsTrue call.before.shelf.known) where
+  module _ (request : Request) (told : IsTrue (are_known request.reads call.before.shelf)) where
     refused : (fault : InputFault) → verdict request call.before.shelf.files ≡ Err fault → (status : Status) → Answers (Some request) call status → RefusalReadOrMemory fault status
     refused fault is Done row = accepted_or_not (verdict request call.before.shelf.files) row.0 fault (row.1 told) is
     refused fault is Usage row = row
-    refused fault is (Input other) row = one_refusal (verdict request call.before.shelf.files) other fault (row.1 told) is
+    refused fault is (Input other) row = one_refusal (verdict request call.before.shelf.files) other fault (row.3 told) is
     refused fault is (Device Read) row = tt
     refused fault is (Device Store) row = accepted_or_not (verdict request call.before.shelf.files) row.0.0 fault (row.0.1 told) is
     refused fault is (Device Print) row = accepted_or_not (verdict request call.before.shelf.files) row.0.0 fault (row.0.1 told) is
@@ -80,7 +93,7 @@ module _ (call : Call) where
     complete ok nothing Done row = tt
     complete ok nothing (Memory memory) row = tt
     complete ok nothing Usage row = row
-    complete ok nothing (Input fault) row = not_refused (verdict request call.before.shelf.files) fault ok (row.1 told)
+    complete ok nothing (Input fault) row = not_refused (verdict request call.before.shelf.files) fault ok (row.3 told)
     complete ok nothing (Device Read) row = nothing.reads row.1.rose
     complete ok nothing (Device Store) row = nothing.stores row.1.rose
     complete ok nothing (Device Print) row = nothing.puts row.1.rose
@@ -92,7 +105,7 @@ module _ (call : Call) where
   pub follows : (asked : Option Request) (status : Status) → Answers asked call status → Follows asked call status
   follows asked status row = record {
     done = λ is. done asked (subst (Answers asked call) is row);
-    drill = λ number workers is_drill is told shown. drill asked number workers (subst (Answers asked call) is row) is_drill told shown;
+    drill = λ number workers is_drill is. drill asked number workers (subst (Answers asked call) is row) is_drill;
     usage = λ is. usage asked (subst (Answers asked call) is row);
     invalid = λ none. invalid status (subst (λ (a : Option Request). Answers a call status) (unasked asked none) row);
     input = λ fault is. input asked fault (subst (Answers asked call) is row);

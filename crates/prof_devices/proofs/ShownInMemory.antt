@@ -1,9 +1,10 @@
 -- The devices over memory do what is asked of any device.
-use Rattle.std.proofs.Common.{◌≡◌, ℕ, ◌<◌, ◌≤◌, ◌∙◌, true, inl, inr, List, [], append-nil, length, take, Option, Some, unwrap_or, refl, sym, ap, subst, arith}
+use Rattle.std.proofs.Common.{◌≡◌, ℕ, ◌<◌, ◌≤◌, ◌∙◌, true, inl, inr, List, [], ◌∷◌, ◌++◌, append-nil, length, take, Option, Some, unwrap_or, refl, sym, ap, subst, arith}
 use Rattle.prof_devices.specs.declared.shelf.Fetch.{Fetch}
 use Rattle.prof_devices.specs.declared.shelf.Fetch.TheVariants as fetches
 use Rattle.prof_devices.specs.declared.shelf.Put.{Put}
 use Rattle.prof_devices.specs.declared.shelf.Put.TheVariants.{Done, Fault, Memory}
+use Rattle.prof_devices.specs.declared.logs.ShelfCall.TheVariants as calls
 use Rattle.prof_devices.specs.Files.{Files, file_of, file_bytes, Holds, HoldsPart}
 use Rattle.prof_devices.specs.Outside.{Failures, ShelfState, last_count, Fails, Fetched, Stored, Taken}
 use Rattle.prof_devices.specs.InMemory.{MemoryShelf, MemorySink, shown_shelf, shown_sink, failed_at, MemoryFetches, MemoryStores, MemoryPuts}
@@ -30,7 +31,7 @@ nothing_held old new name bytes is = subst (λ (fs : Files). HoldsPart old fs na
 pub memory_stored : (old new : MemoryShelf) (name bytes : List ℕ) (answer : Put) → old.stores.count ≤ last_count → MemoryStores old new name bytes answer → Stored (shown_shelf old) (shown_shelf new) name bytes answer
 memory_stored old new name bytes Done small h = (ap shown_shelf h.1, (λ told. h.2))
 memory_stored old new name bytes Fault small h = (
-  ap shown_shelf h.1 ∙ sym (ap (λ (stores : Failures). let s : ShelfState = record { known = true; files = new.files; reads = old.reads; stores = stores } in s) (ap (λ (s : MemoryShelf). s.stores) h.1)),
+  ap shown_shelf h.1 ∙ sym (ap (λ (stores : Failures). let s : ShelfState = record { known = true; files = new.files; reads = old.reads; stores = stores; log = old.log ++ calls.Store name bytes ∷ [] } in s) (ap (λ (s : MemoryShelf). s.stores) h.1)),
   subst (λ (s : MemoryShelf). Fails old.stores s.stores name) (sym h.1) (failed_fails old.stores name small),
   (λ told. part_of_whole old.files new.files name bytes old.kept h.2),
 )

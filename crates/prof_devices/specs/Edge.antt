@@ -7,32 +7,36 @@ use Rattle.prof_devices.specs.declared.shelf.Fetch.{Fetch}
 use Rattle.prof_devices.specs.declared.shelf.Fetch.TheVariants as fetches
 use Rattle.prof_devices.specs.declared.shelf.Put.{Put}
 use Rattle.prof_devices.specs.declared.shelf.Put.TheVariants.{Done, Fault, Memory}
-use Rattle.prof_devices.specs.Outside.{ShelfState, SinkState}
+use Rattle.prof_devices.specs.declared.logs.ShelfCall.TheVariants as calls
+use Rattle.prof_devices.specs.Outside.{ShelfState, SinkState, logged, logged_put}
 use Rattle.prof_devices.specs.InMemory.{failed_at, raised}
 
 -- a fetch from a folder: no answer has more than `limit` bytes
 abbrev pub FolderFetches : ShelfState → ShelfState → List ℕ → ℕ → Fetch → Type 0
-FolderFetches old new name limit (fetches.Whole bytes) = (new ≡ old) × (length bytes ≤ limit)
-FolderFetches old new name limit fetches.TooLong = new ≡ old
-FolderFetches old new name limit fetches.Fault = new ≡ record old { reads = failed_at old.reads name }
-FolderFetches old new name limit (fetches.Memory memory) = new ≡ old
+FolderFetches old new name limit (fetches.Whole bytes) =
+    (new ≡ logged old (calls.Fetch name)) × (length bytes ≤ limit)
+FolderFetches old new name limit fetches.TooLong = new ≡ logged old (calls.Fetch name)
+FolderFetches old new name limit fetches.Fault =
+    new ≡ record (logged old (calls.Fetch name)) { reads = failed_at old.reads name }
+FolderFetches old new name limit (fetches.Memory memory) = new ≡ logged old (calls.Fetch name)
 
 -- a store to a folder
-abbrev pub FolderStores : ShelfState → ShelfState → List ℕ → Put → Type 0
-FolderStores old new name Done = new ≡ old
-FolderStores old new name Fault = new ≡ record old { stores = failed_at old.stores name }
-FolderStores old new name (Memory memory) = new ≡ old
+abbrev pub FolderStores : ShelfState → ShelfState → List ℕ → List ℕ → Put → Type 0
+FolderStores old new name bytes Done = new ≡ logged old (calls.Store name bytes)
+FolderStores old new name bytes Fault =
+    new ≡ record (logged old (calls.Store name bytes)) { stores = failed_at old.stores name }
+FolderStores old new name bytes (Memory memory) = new ≡ logged old (calls.Store name bytes)
 
 -- a put to a stream, which takes no memory
-abbrev pub StreamPuts : SinkState → SinkState → Put → Type 0
-StreamPuts old new Done = new ≡ old
-StreamPuts old new Fault = new ≡ record old { faults = raised old.faults }
-StreamPuts old new (Memory memory) = ⊥
+abbrev pub StreamPuts : SinkState → SinkState → List ℕ → Put → Type 0
+StreamPuts old new bytes Done = new ≡ logged_put old bytes
+StreamPuts old new bytes Fault = new ≡ record (logged_put old bytes) { faults = raised old.faults }
+StreamPuts old new bytes (Memory memory) = ⊥
 
 -- the same for text alone: other bytes are a fault
 abbrev pub LinePuts : SinkState → SinkState → List ℕ → Put → Type 0
-LinePuts old new bytes Done = (new ≡ old) × IsUtf8 bytes
-LinePuts old new bytes Fault = new ≡ record old { faults = raised old.faults }
+LinePuts old new bytes Done = (new ≡ logged_put old bytes) × IsUtf8 bytes
+LinePuts old new bytes Fault = new ≡ record (logged_put old bytes) { faults = raised old.faults }
 LinePuts old new bytes (Memory memory) = ⊥
 
 -- ---- a file that is read to its end

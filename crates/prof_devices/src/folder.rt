@@ -4,6 +4,7 @@ ghost use Rattle.prof_devices.specs.Edge.{FolderFetches, FolderStores};
 ghost use Rattle.prof_devices.specs.private.Parts.{IsAtMost};
 ghost use Rattle.prof_devices.specs.InMemory.{failed_at, no_failures};
 
+use crate::logs::{ShelfLog, log_fetch, log_store, new_shelf_log};
 use crate::read::{ReadSource, ReadStop, fetch_from};
 use crate::shelf::{Fetch, Put, Shelf};
 use crate::store::store_file;
@@ -27,6 +28,7 @@ pub struct FolderShelf<'a, R> {
     read_failed: Text,
     store_faults: u64,
     store_failed: Text,
+    log: ShelfLog,
 }
 
 impl<'a, R> Model for FolderShelf<'a, R> {
@@ -40,6 +42,7 @@ impl<'a, R> Model for FolderShelf<'a, R> {
       files = [];
       reads = record { count = s.read_faults; name = s.read_failed };
       stores = record { count = s.store_faults; name = s.store_failed };
+      log = s.log.value;
     } };
 }
 
@@ -48,7 +51,7 @@ impl<'a, R> FolderShelf<'a, R> {
     pub fn of(rt: &'a R) -> FolderShelf<'a, R>
     where
         R: AllocGlobal,
-        ensures { result ≡ record { known = false; files = []; reads = no_failures; stores = no_failures } }
+        ensures { result ≡ record { known = false; files = []; reads = no_failures; stores = no_failures; log = [] } }
     {
         FolderShelf {
             rt,
@@ -56,20 +59,19 @@ impl<'a, R> FolderShelf<'a, R> {
             read_failed: Text::from_vec(Vec::new(rt.alloc())),
             store_faults: 0,
             store_failed: Text::from_vec(Vec::new(rt.alloc())),
+            log: new_shelf_log(),
         }
     }
 
     fn fail_read(&mut self, name: Text)
-        ensures state { self.new ≡ record self.old { reads = failed_at self.old.reads name } }
-        ensures counts { self.old.reads.count ≤ last_count }
+        ensures { self.new ≡ record self.old { reads = failed_at self.old.reads name } }
     {
         self.read_faults = self.read_faults.saturating_add(1);
         self.read_failed = name;
     }
 
     fn fail_store(&mut self, name: Text)
-        ensures state { self.new ≡ record self.old { stores = failed_at self.old.stores name } }
-        ensures counts { self.old.stores.count ≤ last_count }
+        ensures { self.new ≡ record self.old { stores = failed_at self.old.stores name } }
     {
         self.store_faults = self.store_faults.saturating_add(1);
         self.store_failed = name;
@@ -101,15 +103,14 @@ impl<'a, R: Files + AllocGlobal> FolderShelf<'a, R> {
             Err(ReadStop::Failed) => Put::Fault,
         }
     }
-}
 
-impl<'a, R: Files + AllocGlobal> Shelf for FolderShelf<'a, R> {
-    ghost shown = { λ s. s };
-
-    fn fetch(&mut self, name: &[u8], limit: u64) -> Fetch
-        ensures answer { Fetched self.old self.new name.now limit result }
+    fn fetch_next(&mut self, name: &[u8], limit: u64) -> Fetch
         ensures exact { FolderFetches self.old self.new name.now limit result }
+        ensures unknown { self.old.known ≡ false }
+        ensures counts { self.old.reads.count ≤ last_count }
     {
+        let _count = self.read_faults;
+        self.log = log_fetch(&self.log, name);
         let owned = match Text::of(self.rt.alloc(), name) {
             Ok(owned) => owned,
             Err(memory) => return Fetch::Memory(memory),
@@ -123,10 +124,13 @@ impl<'a, R: Files + AllocGlobal> Shelf for FolderShelf<'a, R> {
         }
     }
 
-    fn store(&mut self, name: &[u8], bytes: &[u8]) -> Put
-        ensures answer { Stored self.old self.new name.now bytes.now result }
-        ensures exact { FolderStores self.old self.new name.now result }
+    fn store_next(&mut self, name: &[u8], bytes: &[u8]) -> Put
+        ensures exact { FolderStores self.old self.new name.now bytes.now result }
+        ensures unknown { self.old.known ≡ false }
+        ensures counts { self.old.stores.count ≤ last_count }
     {
+        let _count = self.store_faults;
+        self.log = log_store(&self.log, name, bytes);
         let owned = match Text::of(self.rt.alloc(), name) {
             Ok(owned) => owned,
             Err(memory) => return Put::Memory(memory),
@@ -138,5 +142,23 @@ impl<'a, R: Files + AllocGlobal> Shelf for FolderShelf<'a, R> {
             }
             answer => answer,
         }
+    }
+}
+
+impl<'a, R: Files + AllocGlobal> Shelf for FolderShelf<'a, R> {
+    ghost shown = { λ s. s };
+
+    fn fetch(&mut self, name: &[u8], limit: u64) -> Fetch
+        ensures answer { Fetched self.old self.new name.now limit result }
+        ensures exact { FolderFetches self.old self.new name.now limit result }
+    {
+        self.fetch_next(name, limit)
+    }
+
+    fn store(&mut self, name: &[u8], bytes: &[u8]) -> Put
+        ensures answer { Stored self.old self.new name.now bytes.now result }
+        ensures exact { FolderStores self.old self.new name.now bytes.now result }
+    {
+        self.store_next(name, bytes)
     }
 }

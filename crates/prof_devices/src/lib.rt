@@ -2,14 +2,15 @@
 //! each call may do, and the devices that meet them.
 //!
 //! It promises that a failure is answered only where its count rose, that a call which succeeds leaves
-//! all counts as they were, that nothing but the named file or the stream changes, and that what is there
-//! after a failure is a front of what was to be written. What the devices over memory hold is known, and
-//! they fail on demand; of those over a folder and over the process's streams nothing is known, and they
-//! are the trusted edge. Below is `prof_bytes`.
+//! all counts as they were, that nothing but the named file or the stream changes, that what is there
+//! after a failure is a front of what was to be written, and that a device's log has each of its calls once. What the
+//! devices over memory hold is known, and they fail on demand; of those over a folder and over the process's streams
+//! nothing is known, and they are the trusted edge. Below are `prof_bytes`, and `ghost_value` for the logs.
 #![tactic(auto)]
 
 mod folder;
 mod gate;
+mod logs;
 mod memory_shelf;
 mod memory_sink;
 mod named_files;
@@ -22,6 +23,7 @@ mod sure;
 
 pub use folder::FolderShelf;
 pub use gate::{Gate, OpenGate};
+pub use logs::ShelfCall;
 pub use memory_shelf::MemShelf;
 pub use memory_sink::MemSink;
 pub use read::{Source, fetch_from};

@@ -1,12 +1,12 @@
-ghost use Rattle.std.specs.Prelude.{◌≡◌, ◌≤◌, None, Some, OnOk, OnErr};
+ghost use Rattle.std.specs.Prelude.{◌≡◌, ◌≤◌, [], None, Some, OnOk, OnErr};
 ghost use Rattle.std.specs.Option.{option_copied};
 ghost use Rattle.prof_devices.specs.Files.{file_of, Holds};
 ghost use Rattle.prof_devices.specs.Outside.{Fetched, Stored, last_count};
-ghost use Rattle.prof_devices.specs.InMemory.{MemoryShelf, MemoryFetches, MemoryStores, with_call, failed_at};
-ghost use Rattle.prof_devices.specs.InMemory.{is_failing};
-ghost use Rattle.prof_devices.specs.InMemory.{no_failures, shown_shelf};
+ghost use Rattle.prof_devices.specs.InMemory.{MemoryShelf, MemoryFetches, MemoryStores, with_fetch, with_store};
+ghost use Rattle.prof_devices.specs.InMemory.{failed_at, is_failing, no_failures, raised, shown_shelf};
 ghost use Rattle.prof_devices.specs.private.Parts.{FileRead, FrontStored};
 
+use crate::logs::{ShelfLog, log_fetch, log_store, new_shelf_log};
 use crate::named_files::{file_in, write_file};
 use crate::shelf::{Fetch, Put, Shelf};
 use prof_bytes::{Memory, Text};
@@ -15,7 +15,7 @@ use std::marker::Model;
 
 /// Files in memory. The calls whose numbers are listed fail, numbered from 1 over both kinds, and a store
 /// that fails so keeps the first `kept` bytes. A fetch of a name that no file has fails too.
-#[derive(Debug, Drop)]
+#[derive(Drop)]
 pub struct MemShelf {
     alloc: Global,
     files: Vec<(Text, Text)>,
@@ -26,6 +26,7 @@ pub struct MemShelf {
     read_failed: Text,
     store_faults: u64,
     store_failed: Text,
+    log: ShelfLog,
 }
 
 impl Model for MemShelf {
@@ -38,6 +39,7 @@ impl Model for MemShelf {
       failing = s.failing.items;
       kept = s.kept;
       calls = s.calls;
+      log = s.log.value;
     } };
 }
 
@@ -51,6 +53,7 @@ impl MemShelf {
           failing = failing.items;
           kept = kept;
           calls = 0;
+          log = [];
         } }
     {
         MemShelf {
@@ -63,6 +66,7 @@ impl MemShelf {
             read_failed: Text::from_vec(Vec::new(alloc)),
             store_faults: 0,
             store_failed: Text::from_vec(Vec::new(alloc)),
+            log: new_shelf_log(),
         }
     }
 
@@ -75,10 +79,26 @@ impl MemShelf {
 
     fn next_fails(&mut self) -> bool
         ensures fails { result ≡ is_failing self.old.failing self.old.calls }
-        ensures state { self.new ≡ with_call self.old }
+        ensures state { self.new ≡ record self.old { calls = raised self.old.calls } }
     {
         self.calls = self.calls.saturating_add(1);
         self.failing.as_slice().contains(&self.calls)
+    }
+
+    fn next_fetch_fails(&mut self, name: &[u8]) -> bool
+        ensures fails { result ≡ is_failing self.old.failing self.old.calls }
+        ensures state { self.new ≡ with_fetch self.old name.now }
+    {
+        self.log = log_fetch(&self.log, name);
+        self.next_fails()
+    }
+
+    fn next_store_fails(&mut self, name: &[u8], bytes: &[u8]) -> bool
+        ensures fails { result ≡ is_failing self.old.failing self.old.calls }
+        ensures state { self.new ≡ with_store self.old name.now bytes.now }
+    {
+        self.log = log_store(&self.log, name, bytes);
+        self.next_fails()
     }
 
     fn fail_read(&mut self, name: Text)
@@ -139,7 +159,7 @@ impl MemShelf {
         ensures exact { MemoryFetches self.old self.new name.now limit result }
         ensures counts { self.old.reads.count ≤ last_count }
     {
-        let fails = self.next_fails();
+        let fails = self.next_fetch_fails(name);
         let _count = self.read_faults;
         let owned = match Text::of(self.alloc, name) {
             Ok(owned) => owned,
@@ -156,7 +176,7 @@ impl MemShelf {
         ensures exact { MemoryStores self.old self.new name.now bytes.now result }
         ensures counts { self.old.stores.count ≤ last_count }
     {
-        let fails = self.next_fails();
+        let fails = self.next_store_fails(name, bytes);
         let _count = self.store_faults;
         let owned = match Text::of(self.alloc, name) {
             Ok(owned) => owned,

@@ -3,6 +3,7 @@ ghost use Rattle.prof_devices.specs.Outside.{Taken, last_count};
 ghost use Rattle.prof_devices.specs.InMemory.{MemorySink, MemoryPuts, counted_put, is_failing, raised, shown_sink};
 ghost use Rattle.prof_devices.specs.private.Parts.{FrontPut};
 
+use crate::logs::{SinkLog, log_put, new_sink_log};
 use crate::shelf::Put;
 use crate::sink::Sink;
 use prof_bytes::Memory;
@@ -11,7 +12,7 @@ use std::marker::Model;
 
 /// Bytes in memory. The puts whose numbers are listed fail, numbered from 1, and keep the first `kept`
 /// bytes.
-#[derive(Debug, Drop)]
+#[derive(Drop)]
 pub struct MemSink {
     bytes: Vec<u8>,
     failing: Vec<u64>,
@@ -19,6 +20,7 @@ pub struct MemSink {
     calls: u64,
     faults: u64,
     shortages: u64,
+    log: SinkLog,
 }
 
 impl Model for MemSink {
@@ -31,6 +33,7 @@ impl Model for MemSink {
       failing = s.failing.items;
       kept = s.kept;
       calls = s.calls;
+      log = s.log.value;
     } };
 }
 
@@ -44,6 +47,7 @@ impl MemSink {
           failing = failing.items;
           kept = kept;
           calls = 0;
+          log = [];
         } }
     {
         MemSink {
@@ -53,6 +57,7 @@ impl MemSink {
             calls: 0,
             faults: 0,
             shortages: 0,
+            log: new_sink_log(),
         }
     }
 
@@ -63,10 +68,11 @@ impl MemSink {
         self.bytes.as_slice()
     }
 
-    fn next_fails(&mut self) -> bool
+    fn next_fails(&mut self, bytes: &[u8]) -> bool
         ensures fails { result ≡ is_failing self.old.failing self.old.calls }
-        ensures state { self.new ≡ counted_put self.old }
+        ensures state { self.new ≡ counted_put self.old bytes.now }
     {
+        self.log = log_put(&self.log, bytes);
         self.calls = self.calls.saturating_add(1);
         self.failing.as_slice().contains(&self.calls)
     }
@@ -97,7 +103,7 @@ impl MemSink {
         ensures faults { self.old.faults ≤ last_count }
         ensures shortages { self.old.shortages ≤ last_count }
     {
-        let fails = self.next_fails();
+        let fails = self.next_fails(bytes);
         let _faults = self.faults;
         let _shortages = self.shortages;
         if fails {

@@ -1,9 +1,10 @@
 ghost use Rattle.std.specs.Prelude.{◌≡◌, ◌≤◌, [], false, true, Bool, IsTrue, if◌then◌else◌};
 ghost use Rattle.core.specs.Str.{IsUtf8};
-ghost use Rattle.prof_devices.specs.Outside.{Taken, last_count};
+ghost use Rattle.prof_devices.specs.Outside.{Taken, last_count, logged_put};
 ghost use Rattle.prof_devices.specs.Edge.{LinePuts, StreamPuts};
 ghost use Rattle.prof_devices.specs.InMemory.{raised};
 
+use crate::logs::{SinkLog, log_put, new_sink_log};
 use crate::shelf::Put;
 use crate::sink::Sink;
 use std::io;
@@ -15,6 +16,7 @@ use std::marker::Model;
 struct Stream<'a, R> {
     rt: &'a R,
     faults: u64,
+    log: SinkLog,
 }
 
 impl<'a, R> Model for Stream<'a, R> {
@@ -23,24 +25,30 @@ impl<'a, R> Model for Stream<'a, R> {
 
     ghost Value = { SinkState };
 
-    ghost view = { λ s. record { known = false; taken = []; faults = s.faults; shortages = 0 } };
+    ghost view = { λ s. record { known = false; taken = []; faults = s.faults; shortages = 0; log = s.log.value } };
 }
 
 impl<'a, R> Stream<'a, R> {
     /// Nothing has failed yet.
     fn of(rt: &'a R) -> Stream<'a, R>
-        ensures { result ≡ record { known = false; taken = []; faults = 0; shortages = 0 } }
+        ensures { result ≡ record { known = false; taken = []; faults = 0; shortages = 0; log = [] } }
     {
-        Stream { rt, faults: 0 }
+        Stream {
+            rt,
+            faults: 0,
+            log: new_sink_log(),
+        }
     }
 
-    /// The answer of a put, which took all its bytes or failed.
-    fn answer(&mut self, took_all: bool) -> Put
+    /// The answer of a put of these bytes, which took them all or failed.
+    fn answer(&mut self, bytes: &[u8], took_all: bool) -> Put
         ensures answer { result ≡ (if took_all then Put.Done else Put.Fault) }
-        ensures state { self.new ≡ (if took_all then self.old else record self.old { faults = raised self.old.faults }) }
+        ensures state { self.new ≡ (if took_all then logged_put self.old bytes.now
+            else record (logged_put self.old bytes.now) { faults = raised self.old.faults }) }
         ensures counts { self.old.faults ≤ last_count }
     {
         let _faults = self.faults;
+        self.log = log_put(&self.log, bytes);
         if took_all {
             return Put::Done;
         }
@@ -66,7 +74,7 @@ impl<'a, R> Model for OutSink<'a, R> {
 impl<'a, R> OutSink<'a, R> {
     /// Standard output. Nothing has failed yet.
     pub fn of(rt: &'a R) -> OutSink<'a, R>
-        ensures { result ≡ record { known = false; taken = []; faults = 0; shortages = 0 } }
+        ensures { result ≡ record { known = false; taken = []; faults = 0; shortages = 0; log = [] } }
     {
         OutSink {
             stream: Stream::of(rt),
@@ -79,10 +87,10 @@ impl<'a, R: Print> Sink for OutSink<'a, R> {
 
     fn put(&mut self, bytes: &[u8]) -> Put
         ensures answer { Taken self.old self.new bytes.now result }
-        ensures exact { StreamPuts self.old self.new result }
+        ensures exact { StreamPuts self.old self.new bytes.now result }
     {
         let printed = io::writer(self.stream.rt).write_all(bytes).is_ok();
-        self.stream.answer(printed)
+        self.stream.answer(bytes, printed)
     }
 }
 
@@ -103,7 +111,7 @@ impl<'a, R> Model for ErrSink<'a, R> {
 impl<'a, R> ErrSink<'a, R> {
     /// Standard error. Nothing has failed yet.
     pub fn of(rt: &'a R) -> ErrSink<'a, R>
-        ensures { result ≡ record { known = false; taken = []; faults = 0; shortages = 0 } }
+        ensures { result ≡ record { known = false; taken = []; faults = 0; shortages = 0; log = [] } }
     {
         ErrSink {
             stream: Stream::of(rt),
@@ -129,6 +137,6 @@ impl<'a, R: Eprint> Sink for ErrSink<'a, R> {
         ensures exact { LinePuts self.old self.new bytes.now result }
     {
         let printed = print_text(self.stream.rt, bytes);
-        self.stream.answer(printed)
+        self.stream.answer(bytes, printed)
     }
 }

@@ -1,9 +1,11 @@
 ghost use Rattle.std.specs.Prelude.{◌≡◌, []};
 ghost use Rattle.std.specs.Option.{option_copied};
-ghost use Rattle.prof_devices.specs.Files.{Files, file_of};
+ghost use Rattle.prof_devices.specs.Files.{file_of};
 ghost use Rattle.prof_devices.specs.Outside.{Fetched, Stored, Taken};
-ghost use Rattle.prof_devices.specs.InMemory.{SureSinkState, SureFetches, SureStores, SurePuts, sure_shelf, sure_sink};
+ghost use Rattle.prof_devices.specs.InMemory.{SureShelfState, SureFetches, SureStores, sure_shelf};
+ghost use Rattle.prof_devices.specs.InMemory.{SureSinkState, SurePuts, sure_sink};
 
+use crate::logs::{ShelfLog, SinkLog, log_fetch, log_put, log_store, new_shelf_log, new_sink_log};
 use crate::named_files::{bytes_in, file_in, write_file};
 use crate::shelf::{Fetch, Put, Shelf};
 use crate::sink::Sink;
@@ -12,29 +14,34 @@ use std::alloc::Global;
 use std::marker::Model;
 
 /// Files in memory, where no call fails but for memory. A name that no file has is an empty file.
-#[derive(Debug, Drop)]
+#[derive(Drop)]
 pub struct SureShelf {
     alloc: Global,
     files: Vec<(Text, Text)>,
+    log: ShelfLog,
 }
 
 impl Model for SureShelf {
-    ghost Value = { Files };
+    ghost Value = { SureShelfState };
 
-    ghost view = { λ s. s.files.items };
+    ghost view = { λ s. record { files = s.files.items; log = s.log.value } };
 }
 
 impl SureShelf {
     /// A shelf with these files, of which no two have one name.
     pub fn of(alloc: Global, files: Vec<(Text, Text)>) -> SureShelf
-        ensures { result ≡ files.items }
+        ensures { result ≡ record { files = files.items; log = [] } }
     {
-        SureShelf { alloc, files }
+        SureShelf {
+            alloc,
+            files,
+            log: new_shelf_log(),
+        }
     }
 
     /// The bytes of the file with this name.
     pub fn file(&self, name: &[u8]) -> Option<&[u8]>
-        ensures { option_copied result ≡ file_of self.now name.now }
+        ensures { option_copied result ≡ file_of self.now.files name.now }
     {
         file_in(self.files.as_slice(), name)
     }
@@ -47,6 +54,7 @@ impl Shelf for SureShelf {
         ensures answer { Fetched (sure_shelf self.old) (sure_shelf self.new) name.now limit result }
         ensures exact { SureFetches self.old self.new name.now limit result }
     {
+        self.log = log_fetch(&self.log, name);
         let bytes = bytes_in(self.files.as_slice(), name);
         if bytes.len() as u64 > limit {
             return Fetch::TooLong;
@@ -61,6 +69,7 @@ impl Shelf for SureShelf {
         ensures answer { Stored (sure_shelf self.old) (sure_shelf self.new) name.now bytes.now result }
         ensures exact { SureStores self.old self.new name.now bytes.now result }
     {
+        self.log = log_store(&self.log, name, bytes);
         let text = match Text::of(self.alloc, bytes) {
             Ok(text) => text,
             Err(memory) => return Put::Memory(memory),
@@ -73,26 +82,28 @@ impl Shelf for SureShelf {
 }
 
 /// Bytes in memory, where no put fails but for memory.
-#[derive(Debug, Drop)]
+#[derive(Drop)]
 pub struct SureSink {
     bytes: Vec<u8>,
     shortages: u64,
+    log: SinkLog,
 }
 
 impl Model for SureSink {
     ghost Value = { SureSinkState };
 
-    ghost view = { λ s. record { taken = s.bytes.items; shortages = s.shortages } };
+    ghost view = { λ s. record { taken = s.bytes.items; shortages = s.shortages; log = s.log.value } };
 }
 
 impl SureSink {
     /// A sink that has taken nothing yet.
     pub fn new(alloc: Global) -> SureSink
-        ensures { result ≡ record { taken = []; shortages = 0 } }
+        ensures { result ≡ record { taken = []; shortages = 0; log = [] } }
     {
         SureSink {
             bytes: Vec::new(alloc),
             shortages: 0,
+            log: new_sink_log(),
         }
     }
 
@@ -111,6 +122,7 @@ impl Sink for SureSink {
         ensures answer { Taken (sure_sink self.old) (sure_sink self.new) bytes.now result }
         ensures exact { SurePuts self.old self.new bytes.now result }
     {
+        self.log = log_put(&self.log, bytes);
         match self.bytes.extend_from_slice(bytes) {
             Ok(()) => Put::Done,
             Err(failed) => {

@@ -1,8 +1,9 @@
 -- What the steps of a command do: its fetches, what is made of them, and the store and the put at its end.
-use Rattle.std.specs.Prelude.{◌≡◌, ℕ, ◌≤◌, ◌⊎◌, List, [], ◌∷◌, length, Option, Result, Ok, Err, IsTrue}
+use Rattle.std.specs.Prelude.{◌≡◌, ℕ, ◌≤◌, ◌⊎◌, List, [], ◌∷◌, ◌++◌, length, Option, Result, Ok, Err, IsTrue}
 use Rattle.prof_bytes.specs.declared.text.Text.{Text}
-use Rattle.prof_devices.specs.Outside.{ShelfState, SinkState, Fails, Appends, AppendsPart}
+use Rattle.prof_devices.specs.Outside.{ShelfState, SinkState, Fails, Appends, AppendsPart, logged_put}
 use Rattle.command_line.specs.declared.status.InputFault.{InputFault}
+use Rattle.command_line.specs.declared.status.InputFault.TheVariants.{TooLong}
 use Rattle.hpc_top.specs.declared.status.Stop.{Stop}
 use Rattle.hpc_top.specs.declared.status.Stop.TheVariants.{Input, Device, Memory}
 use Rattle.command_line.specs.declared.status.Place.TheVariants.{Read, Store, Print}
@@ -12,23 +13,27 @@ use Rattle.command_line.specs.Kind.{Wanted, file_limit, kinds_of}
 use Rattle.command_line.specs.Request.{Request}
 use Rattle.hpc_top.specs.Verdict.{limited_bytes, contents, verdict}
 use Rattle.hpc_top.specs.Outcome.{Call, Storing, Printing, Finished, ReadFailed, StoreFailed, PrintFailed}
+use Rattle.hpc_top.specs.Outcome.{are_known, with_fetches, SomeFetched, FetchedFor}
 
 -- ---- fetches
 
--- why fetches stop, where the definition of what they give is `wanted`, and a read that failed is a fact `Failed`. They
--- change nothing but the failed reads
-abbrev pub FetchStops : {X : Type 0} → Type 0 → ShelfState → ShelfState → Result X InputFault → Stop → Type 0
-FetchStops Failed old new wanted (Input fault) = (new ≡ old) × (IsTrue old.known → wanted ≡ Err fault)
-FetchStops Failed old new wanted (Device Read) = (new ≡ record old { reads = new.reads }) × Failed
-FetchStops Failed old new wanted (Device Store) = ⊥
-FetchStops Failed old new wanted (Device Print) = ⊥
-FetchStops Failed old new wanted (Memory memory) = new ≡ old
+-- why the fetch of a file stops
+abbrev pub FetchStops : ShelfState → ShelfState → Wanted → Stop → Type 0
+FetchStops old new w (Input fault) =
+    (new ≡ with_fetches old (w ∷ [])) × (fault ≡ TooLong w.file (file_limit w.file))
+    × (IsTrue old.known → limited_bytes old.files w ≡ Err fault)
+FetchStops old new w (Device Read) =
+    (new ≡ record (with_fetches old (w ∷ [])) { reads = new.reads }) × Fails old.reads new.reads w.name
+FetchStops old new w (Device Store) = ⊥
+FetchStops old new w (Device Print) = ⊥
+FetchStops old new w (Memory memory) = new ≡ with_fetches old (w ∷ [])
 
 -- one file is fetched
 abbrev pub Fetches : ShelfState → ShelfState → Wanted → Result Text Stop → Type 0
 Fetches old new w (Ok text) =
-    (new ≡ old) × (length text ≤ file_limit w.file) × (IsTrue old.known → limited_bytes old.files w ≡ Ok text)
-Fetches old new w (Err stop) = FetchStops (Fails old.reads new.reads w.name) old new (limited_bytes old.files w) stop
+    (new ≡ with_fetches old (w ∷ [])) × (length text ≤ file_limit w.file)
+    × (IsTrue old.known → limited_bytes old.files w ≡ Ok text)
+Fetches old new w (Err stop) = FetchStops old new w stop
 
 -- one text for each file of these kinds, and within its limit
 abbrev pub AreWithin : List (List ℕ) → List FileKind → Type 0
@@ -37,33 +42,50 @@ AreWithin (text ∷ texts) (file ∷ files) = (length text ≤ file_limit file) 
 AreWithin [] (file ∷ files) = ⊥
 AreWithin (text ∷ texts) [] = ⊥
 
+-- why a command stops before it delivers, where the definition of what it gives is `wanted`. It changes nothing but the
+-- failed reads and the log
+abbrev pub StopsEarly : {X : Type 0} → List Wanted → ShelfState → ShelfState → Result X InputFault → Stop → Type 0
+StopsEarly wants old new wanted (Input fault) =
+    (new ≡ record old { log = new.log }) × FetchedFor fault wants old new
+    × (IsTrue (are_known wants old) → wanted ≡ Err fault)
+StopsEarly wants old new wanted (Device Read) =
+    (new ≡ record old { reads = new.reads; log = new.log }) × ReadFailed wants old new
+StopsEarly wants old new wanted (Device Store) = ⊥
+StopsEarly wants old new wanted (Device Print) = ⊥
+StopsEarly wants old new wanted (Memory memory) = (new ≡ record old { log = new.log }) × SomeFetched wants old new
+
 -- all files of a command are fetched, in their order
 abbrev pub FetchesAll : ShelfState → ShelfState → List Wanted → Result (List (List ℕ)) Stop → Type 0
 FetchesAll old new wants (Ok texts) =
-    (new ≡ old) × AreWithin texts (kinds_of wants) × (IsTrue old.known → contents old.files wants ≡ Ok texts)
-FetchesAll old new wants (Err stop) = FetchStops (ReadFailed wants old new) old new (contents old.files wants) stop
+    (new ≡ with_fetches old wants) × AreWithin texts (kinds_of wants)
+    × (IsTrue (are_known wants old) → contents old.files wants ≡ Ok texts)
+FetchesAll old new wants (Err stop) = StopsEarly wants old new (contents old.files wants) stop
 
 -- the fetches of a command and what is made of them
 abbrev pub Prepares : Request → ShelfState → ShelfState → Result Product Stop → Type 0
-Prepares request old new (Ok made) = (new ≡ old) × (IsTrue old.known → verdict request old.files ≡ Ok made)
-Prepares request old new (Err stop) =
-    FetchStops (ReadFailed request.reads old new) old new (verdict request old.files) stop
+Prepares request old new (Ok made) =
+    (new ≡ with_fetches old request.reads)
+    × (IsTrue (are_known request.reads old) → verdict request old.files ≡ Ok made)
+Prepares request old new (Err stop) = StopsEarly request.reads old new (verdict request old.files) stop
 
 -- ---- the end of a command
 
--- why a put stops
+-- why a put stops. It was made once
 abbrev pub TextStops : SinkState → SinkState → List ℕ → Stop → Type 0
 TextStops out out' text (Input fault) = ⊥
 TextStops out out' text (Device Read) = ⊥
 TextStops out out' text (Device Store) = ⊥
 TextStops out out' text (Device Print) =
-    (IsTrue out.known → AppendsPart out.taken out'.taken text) × PrintFailed out out'
-TextStops out out' text (Memory memory) = IsTrue out.known → AppendsPart out.taken out'.taken text
+    (out'.log ≡ out.log ++ text ∷ []) × (IsTrue out.known → AppendsPart out.taken out'.taken text)
+    × PrintFailed out out'
+TextStops out out' text (Memory memory) =
+    (out'.log ≡ out.log ++ text ∷ []) × (IsTrue out.known → AppendsPart out.taken out'.taken text)
 
 -- a text is put, or why not
 abbrev pub PutsText : SinkState → SinkState → List ℕ → Result (Unit {0}) Stop → Type 0
 PutsText out out' text (Ok _) =
-    (IsTrue out.known → Appends out.taken out'.taken text) × (out' ≡ record out { taken = out'.taken })
+    (IsTrue out.known → Appends out.taken out'.taken text)
+    × (out' ≡ record (logged_put out text) { taken = out'.taken })
 PutsText out out' text (Err stop) = TextStops out out' text stop
 
 -- why a delivery stops

@@ -1,13 +1,5 @@
-use Rattle.std.proofs.Common.{◌≡◌, List, ℕ, ap, ◌∙◌, rules}
-use Rattle.prof_devices.specs.Outside.{ShelfState, Fails}
-use Rattle.prof_devices.specs.InMemory.{failed_at}
-use Rattle.prof_devices.proofs.ShownByFolder.{store_failed}
+use Rattle.prof_devices.proofs.ShownByFolder.{folder_stored}
 use Rattle.prof_devices.proofs.folder.FolderShelfShelf.store.Goals as goal
 
-pub returns-in-Fault-clause-answer : goal.returns-in-Fault-clause-answer
-returns-in-Fault-clause-answer g c =
-    let failed : (c.fail_store.new.self ≡ record c.args.self.now { files = c.fail_store.new.self.files; stores = c.fail_store.new.self.stores }) × Fails c.args.self.now.stores c.fail_store.new.self.stores c.args.name.now =
-    store_failed c.args.self.now c.fail_store.new.self c.args.name.now c.fail_store.ensures.counts
-    (c.fail_store.ensures.state ∙ ap (λ (name : List ℕ). let s : ShelfState = record c.args.self.now { stores = failed_at c.args.self.now.stores name } in s) c.in-Ok.ensures)
-    in
-    (failed.0, failed.1, search rules)
+pub returns-clause-answer : goal.returns-clause-answer
+returns-clause-answer g c = folder_stored c.args.self.now c.store_next.new.self _ _ _ c.store_next.ensures.unknown c.store_next.ensures.counts c.store_next.ensures.exact
