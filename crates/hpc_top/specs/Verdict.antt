@@ -3,19 +3,12 @@ use Rattle.std.specs.Prelude.{ℕ, List, [], ◌∷◌, length, Result, Ok, Err,
 use Rattle.prof_bytes.specs.Outcome.{◌>>=◌}
 use Rattle.prof_devices.specs.Files.{Files, file_bytes}
 use Rattle.command_line.specs.declared.kind.FileKind.TheVariants as kinds
-use Rattle.command_line.specs.declared.request.Command.{Command}
-use Rattle.command_line.specs.declared.request.Command.TheVariants.{Profile, Run, Prof, Struct, View, Drill}
 use Rattle.command_line.specs.declared.status.InputFault.{InputFault}
 use Rattle.command_line.specs.declared.status.InputFault.TheVariants.{TooLong}
 use Rattle.command_line.specs.Kind.{Wanted, file_limit}
 use Rattle.command_line.specs.Request.{Request}
 use Rattle.hpc_top.specs.Product.{Product}
-use Rattle.hpc_top.specs.commands.Profile.{profile_makes}
-use Rattle.hpc_top.specs.commands.Run.{run_makes}
-use Rattle.hpc_top.specs.commands.Prof.{prof_makes}
-use Rattle.hpc_top.specs.commands.Structure.{struct_makes}
-use Rattle.hpc_top.specs.commands.View.{view_makes}
-use Rattle.hpc_top.specs.commands.Drill.{drill_makes}
+use Rattle.hpc_top.specs.commands.{makes}
 
 -- ---- the files
 
@@ -41,16 +34,7 @@ contents files (w ∷ ws) = do
   rest ← contents files ws
   Ok (bytes ∷ rest)
 
--- ---- what is made of them
-
--- what a command makes of the contents of its files, which come in the order in which they are wanted
-abbrev pub makes : Command → List (List ℕ) → Result Product InputFault
-makes (Profile period workers) texts = profile_makes period texts
-makes (Run period) texts = run_makes period texts
-makes (Prof workers) texts = prof_makes texts
-makes Struct texts = struct_makes texts
-makes (View table) texts = view_makes table texts
-makes (Drill number workers) texts = drill_makes number texts
+-- ---- the verdict
 
 -- accepted, with its product, or the first refusal
 abbrev pub verdict : Request → Files → Result Product InputFault

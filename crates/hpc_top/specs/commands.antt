@@ -1,7 +1,27 @@
 -- What each command makes of the contents of its files.
+use Rattle.std.specs.Prelude.{ℕ, List, Result}
+use Rattle.command_line.specs.declared.request.Command.{Command}
+use Rattle.command_line.specs.declared.request.Command.TheVariants as command
+use Rattle.command_line.specs.declared.status.InputFault.{InputFault}
+use Rattle.hpc_top.specs.Product.{Product}
+use Rattle.hpc_top.specs.commands.Profile.{profile_makes}
+use Rattle.hpc_top.specs.commands.Run.{run_makes}
+use Rattle.hpc_top.specs.commands.Prof.{prof_makes}
+use Rattle.hpc_top.specs.commands.Structure.{struct_makes}
+use Rattle.hpc_top.specs.commands.View.{view_makes}
+use Rattle.hpc_top.specs.commands.Drill.{drill_makes}
 pub mod Profile
 pub mod Run
 pub mod Prof
 pub mod Structure
 pub mod View
 pub mod Drill
+
+-- what a command makes of the contents of its files, which come in the order in which they are wanted
+abbrev pub makes : Command → List (List ℕ) → Result Product InputFault
+makes (command.Profile period workers) texts = profile_makes period texts
+makes (command.Run period) texts = run_makes period texts
+makes (command.Prof workers) texts = prof_makes texts
+makes command.Struct texts = struct_makes texts
+makes (command.View table) texts = view_makes table texts
+makes (command.Drill number workers) texts = drill_makes number texts

@@ -1,7 +1,7 @@
 //! The commands, a module for each: what it makes of the contents of its files, or their first refusal.
 ghost use Rattle.command_line.specs.Request.{IsCommand, kinds_read};
 ghost use Rattle.prof_bytes.specs.Outcome.{Gives};
-ghost use Rattle.hpc_top.specs.Verdict.{makes};
+ghost use Rattle.hpc_top.specs.commands.{makes};
 ghost use Rattle.hpc_top.specs.private.Steps.{AreWithin};
 
 pub mod drill;

@@ -1,6 +1,7 @@
 //! `prof`: the database of a measurement's samples, and their table.
 ghost use Rattle.std.specs.Prelude.{◌≡◌, ◌≤◌, ◌<◌, [], ◌∷◌, All, IfOk, IsTrue, List, length};
 ghost use Rattle.command_line.specs.declared.kind.FileKind.TheVariants as kinds;
+ghost use Rattle.command_line.specs.Request.{AreWorkers};
 ghost use Rattle.measure_file.specs.Measurable.{IsMeasurable, AreMeasured};
 ghost use Rattle.prof_bytes.specs.Outcome.{Gives};
 ghost use Rattle.scope_types.specs.Distinct.{ColumnRaw, distinct, each_sample};
@@ -70,7 +71,7 @@ fn attribute_counted<R: Threads + Sync, C: Crews>(
     ccts: &Ccts,
 ) -> Result<Product, Fail<InputFault>>
     requires period { 0 < merge.now.period }
-    requires workers { (1 ≤ merge.now.workers) × (merge.now.workers ≤ 16) }
+    requires workers { AreWorkers merge.now.workers }
     requires whole { IsTrue (C.whole merge.now.crews.now) }
     ensures { (samples : List ColumnRaw) → ccts.now ≡ distinct (length ccts.now) samples
         → All (λ s. s.column < length ccts.now) samples
@@ -94,7 +95,7 @@ fn attribute_scopes<R: Threads + Sync, C: Crews>(
     ccts: &Ccts,
 ) -> Result<Product, Fail<InputFault>>
     requires period { 0 < merge.now.period }
-    requires workers { (1 ≤ merge.now.workers) × (merge.now.workers ≤ 16) }
+    requires workers { AreWorkers merge.now.workers }
     requires measured { AreMeasured ccts.now }
     requires whole { IsTrue (C.whole merge.now.crews.now) }
     ensures { Gives (λ p. p) result
@@ -116,7 +117,7 @@ fn attribute_code<R: Threads + Sync, C: Crews>(
     ccts: &Ccts,
 ) -> Result<Product, Fail<InputFault>>
     requires period { 0 < merge.now.period }
-    requires workers { (1 ≤ merge.now.workers) × (merge.now.workers ≤ 16) }
+    requires workers { AreWorkers merge.now.workers }
     requires measured { AreMeasured ccts.now }
     requires whole { IsTrue (C.whole merge.now.crews.now) }
     ensures { Gives (λ p. p) result (attributed_code image.now merge.now.period ccts.now) }
@@ -136,7 +137,7 @@ fn attribute<R: Threads + Sync, C: Crews>(
     crews: &C,
 ) -> Result<Product, Fail<InputFault>>
     requires program { length elf.now ≤ program_limit }
-    requires workers { (1 ≤ workers) × (workers ≤ 16) }
+    requires workers { AreWorkers workers }
     requires whole { IsTrue (C.whole crews.now) }
     ensures { Gives (λ p. p) result (prof_product elf.now measurement.now) }
 {
@@ -159,7 +160,7 @@ pub fn make<R: Threads + Sync + AllocGlobal, G: Gate>(
     gate: &G,
 ) -> Result<Product, Fail<InputFault>>
     requires files { AreWithin texts.now (kinds.Program ∷ kinds.Measurement ∷ []) }
-    requires workers { (1 ≤ workers) × (workers ≤ 16) }
+    requires workers { AreWorkers workers }
     ensures { Gives (λ p. p) result (prof_makes texts.now) }
 {
     let [elf, measurement] = texts else {

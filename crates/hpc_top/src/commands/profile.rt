@@ -1,6 +1,7 @@
 //! `profile`: the database and the report of a program's run.
-ghost use Rattle.std.specs.Prelude.{◌<◌, ◌≤◌, [], ◌∷◌, IfOk, IsTrue};
+ghost use Rattle.std.specs.Prelude.{◌<◌, [], ◌∷◌, IfOk, IsTrue};
 ghost use Rattle.command_line.specs.declared.kind.FileKind.TheVariants as kinds;
+ghost use Rattle.command_line.specs.Request.{AreWorkers};
 ghost use Rattle.prof_bytes.specs.Outcome.{Gives};
 ghost use Rattle.tree_types.specs.OfContent.{IsProfile};
 ghost use Rattle.hpc_top.specs.Job.{IsJob};
@@ -91,7 +92,7 @@ pub fn make<R: Threads + Sync + AllocGlobal, G: Gate>(
 ) -> Result<Product, Fail<InputFault>>
     requires files { AreWithin texts.now (kinds.Program ∷ kinds.Input ∷ kinds.Schedule ∷ []) }
     requires period { 0 < period }
-    requires workers { (1 ≤ workers) × (workers ≤ 16) }
+    requires workers { AreWorkers workers }
     ensures { Gives (λ p. p) result (profile_makes period texts.now) }
 {
     let [elf, input, schedule] = texts else {
