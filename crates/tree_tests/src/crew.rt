@@ -1,14 +1,14 @@
 //! Merges by workers: which pieces they merge, what the gate is told, that four of them run side by side, and a crew
 //! that hands out other stripes than its workers filled.
-ghost use Rattle.std.specs.Prelude.{◌≡◌, IfOk};
+ghost use Rattle.std.specs.Prelude.{IfOk};
 ghost use Rattle.merge_crew.specs.Merged.{IsOfPlan, IsWhole};
 ghost use Rattle.thread_cct.specs.Plan.{FitsExpansion, expanded};
 
-use crate::plan::one_column;
+use crate::plan::{Innermost, one_column};
 use merge_crew::{Crew, Crews, WorkCrew, merge_all};
 use prof_bytes::{Fail, Memory};
 use prof_devices::{Gate, OpenGate};
-use scope_types::{Expand, LineId, ProcId, RawPath, RootKind, Scope, ScopePath};
+use scope_types::Expand;
 use std::alloc::Global;
 use std::sync::atomic::{AtomicBool, AtomicU32, Ordering};
 use std::test::Fail as Failed;
@@ -17,44 +17,8 @@ use std::thread::Threads;
 use test_crews::EmptyCrew;
 use thread_cct::{Ccts, Plan, TooManyFrames, TooManyScopes};
 
-/// Expands a frame to its address, in a procedure without a name.
-#[derive(Drop)]
-struct Nameless {
-    alloc: Global,
-}
-
-impl Expand for Nameless {
-    ghost use Rattle.std.specs.Prelude.{◌∷◌, [], slice_index_or};
-    ghost use Rattle.scope_types.specs.declared.scope.LineId.TheVariants.{Address};
-    ghost use Rattle.scope_types.specs.declared.scope.ProcId.TheVariants as procs;
-    ghost use Rattle.scope_types.specs.declared.scope.RootKind.TheVariants.{Thread};
-    ghost use Rattle.scope_types.specs.declared.scope.Scope.TheVariants.{Root, Proc, Stmt};
-
-    type Memo = ();
-
-    ghost call_path = { λ _ raw. Root Thread ∷ Proc procs.Nameless
-        ∷ Stmt (Address (slice_index_or raw.frames 0 (record { pc = 0 })).pc) ∷ [] };
-
-    ghost fits = { λ _ _. Unit {0} };
-
-    fn fresh(&self) -> Result<(), Memory> {
-        Ok(())
-    }
-
-    fn length(&self, _raw: &RawPath) -> u64 {
-        3
-    }
-
-    fn expand(&self, _memo: &mut (), raw: &RawPath) -> Result<ScopePath, Memory> {
-        let mut scopes = Vec::new(self.alloc);
-        scopes.push(Scope::Root(RootKind::Thread))?;
-        scopes.push(Scope::Proc(ProcId::Nameless))?;
-        scopes.push(Scope::Stmt(LineId::Address(raw.frames()[0].pc)))?;
-        Ok(ScopePath::of(scopes))
-    }
-}
-
-/// One column with 64 paths of one frame for each chunk, of up to seven. The pieces are empty but for stripe 6.
+/// One column with 64 paths of one frame for each chunk, of up to seven. The hash of their roots and procedures deals
+/// them to stripes 1, 5, 9 and 13, sixteen of a chunk to each.
 fn paths(alloc: Global, chunks: u32) -> Result<Ccts, Fail<TooManyFrames>> {
     one_column(alloc, 0x1_0000, 4, chunks.min(7) * 64)
 }
@@ -177,10 +141,22 @@ fn merged<R: Threads + Sync, G: Gate>(
     workers: u32,
     gate: &G,
 ) -> Result<Crew, Fail<TooManyScopes>> {
-    let expand = Nameless { alloc };
+    let expand = Innermost { alloc };
     let plan = Plan::of(alloc, ccts, &expand)?;
     let workers = workers.min(16).max(1);
     Ok(merge_all(rt, alloc, &plan, &expand, workers, gate)?)
+}
+
+/// The first stripe of two merged chunks that has other nodes than a root, and a procedure and a statement for each of
+/// the 32 paths that are dealt to it.
+fn other_nodes(crew: &Crew) -> Option<u32> {
+    for stripe in 0..16u32 {
+        let nodes = if stripe % 4 == 1 { 65 } else { 0 };
+        if crew.stripes.trie(stripe).len() != nodes {
+            return Some(stripe);
+        }
+    }
+    None
 }
 
 /// What of all pieces a crew of a given number of workers has otherwise.
@@ -191,8 +167,8 @@ fn other_piece(crew: &Crew, workers: u32) -> Option<&'static str> {
     if unnamed(crew, 2).is_some() {
         return Some("the chunks that a stripe names");
     }
-    if crew.stripes.trie(6).len() != 130 {
-        return Some("the nodes of stripe 6");
+    if other_nodes(crew).is_some() {
+        return Some("the nodes of a stripe");
     }
     let counts = (crew.merged, crew.busy_left, crew.present, crew.settled);
     if workers == 1 && counts != (32, 0, 0, 0) {
@@ -286,7 +262,7 @@ fn merged_through<R: Threads + Sync>(
     ccts: &Ccts,
     gate: &Meeting,
 ) -> Result<Crew, Fail<TooManyScopes>> {
-    let expand = Nameless { alloc };
+    let expand = Innermost { alloc };
     let plan = Plan::of(alloc, ccts, &expand)?;
     Ok(merge_by(rt, alloc, &plan, &expand, gate)?)
 }
@@ -321,13 +297,13 @@ fn merged_elsewhere<R: Threads + Sync>(
     alloc: Global,
     ccts: &Ccts,
 ) -> Result<Crew, Fail<TooManyScopes>> {
-    let expand = Nameless { alloc };
+    let expand = Innermost { alloc };
     let plan = Plan::of(alloc, ccts, &expand)?;
     let crews = EmptyCrew::new();
     Ok(crews.merge(rt, alloc, &plan, &expand, 2)?)
 }
 
-/// Whether such a crew has merged nothing, and its stripe 6 names no chunk.
+/// Whether such a crew has merged nothing, and its stripe 5 names no chunk.
 fn is_empty<R: Threads + Sync>(
     rt: &R,
     alloc: Global,
@@ -335,7 +311,7 @@ fn is_empty<R: Threads + Sync>(
 ) -> Result<bool, Fail<TooManyScopes>> {
     let crew = merged_elsewhere(rt, alloc, ccts)?;
     let counts = (crew.merged, crew.busy_left, crew.present, crew.settled);
-    Ok(counts == (0, 0, 0, 0) && crew.stripes.names(6).is_empty())
+    Ok(counts == (0, 0, 0, 0) && crew.stripes.names(5).is_empty())
 }
 
 #[test]
