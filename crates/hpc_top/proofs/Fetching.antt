@@ -18,7 +18,8 @@ use Rattle.command_line.specs.declared.kind.Want.{Want}
 use Rattle.command_line.specs.declared.kind.FileKind.{FileKind}
 use Rattle.command_line.specs.Kind.{Wanted, file_limit, kinds_of, view_want}
 use Rattle.command_line.specs.Request.{Request}
-use Rattle.hpc_top.specs.Verdict.{limited_bytes, contents, makes, verdict}
+use Rattle.hpc_top.specs.Verdict.{limited_bytes, contents, verdict}
+use Rattle.hpc_top.specs.commands.{makes}
 use Rattle.hpc_top.specs.Outcome.{are_known, fetches_of, with_fetches, SomeFetched, AllFetched, FetchedUpTo, FetchedFor}
 use Rattle.hpc_top.specs.private.Steps.{FetchStops, StopsEarly, AreWithin}
 use Rattle.hpc_top.specs.private.Stop.{IsStopOf}

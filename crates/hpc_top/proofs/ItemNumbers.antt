@@ -18,7 +18,7 @@ use Rattle.dwarf_info.specs.declared.constants.TheConstants.{DW_AT_call_file, DW
 use Rattle.dwarf_line.specs.Lines.{Lines, TableNames, table_with}
 use Rattle.dwarf_inline.specs.declared.subroutine.Subroutine.{Subroutine}
 use Rattle.dwarf_inline.specs.Links.{Indexed, entry_name, identity, is_inlined, item_entries, unnamed}
-use Rattle.dwarf_inline.specs.Structure.{ProgramStructure, call_at, checked_items, counted_ranges, item_of, row_of, structure_of, unit_line_table}
+use Rattle.dwarf_inline.specs.Structure.{ProgramStructure, call_at, checked_items, counted_ranges, item_of, call_row, structure_of, unit_line_table}
 use Rattle.scope_types.specs.declared.scope.LineId.{LineId}
 use Rattle.scope_types.specs.declared.scope.LineId.TheVariants.{Row, Address}
 use Rattle.scope_types.specs.Limits.{most_name_bytes}
@@ -69,12 +69,12 @@ address_small address low = ((let one : 1 < 2 ^ 32 = omega arith in one), (low, 
 pub row_small : (table file line : ℕ) → table < 2 ^ 32 → file < 2 ^ 32 → line < 2 ^ 32 → IsSmallLine (Row table file line)
 row_small table file line a b c = (no_word, (a, (b, (c, tt))))
 
-row_of_small : (table file line : Option ℕ) → IfSome table IsWord → IfSome file IsWord → IfSome line IsWord → IfSome (row_of table (file, line)) IsSmallLine
-row_of_small (Some table) (Some file) (Some line) a b c = row_small table file line a b c
-row_of_small (Some table) None (Some line) a b c = row_small table 0 line a no_word c
-row_of_small (Some table) file None a b c = tt
-row_of_small None file (Some line) a b c = tt
-row_of_small None file None a b c = tt
+call_row_small : (table file line : Option ℕ) → IfSome table IsWord → IfSome file IsWord → IfSome line IsWord → IfSome (call_row table (file, line)) IsSmallLine
+call_row_small (Some table) (Some file) (Some line) a b c = row_small table file line a b c
+call_row_small (Some table) None (Some line) a b c = row_small table 0 line a no_word c
+call_row_small (Some table) file None a b c = tt
+call_row_small None file (Some line) a b c = tt
+call_row_small None file None a b c = tt
 
 pub line_or_address : (line : Option LineId) (address : ℕ) → IfSome line IsSmallLine → address < 2 ^ 32 → IsSmallLine (unwrap_or line (Address address))
 line_or_address None address is low = address_small address low
@@ -134,8 +134,8 @@ table_small tables (Some offset) all = chosen_small tables offset (is_some (tabl
 call_small : (info : DebugInfo) (lines : Lines) (i : ℕ) (ranges : List (ℕ × ℕ)) → AreSmallTables lines.tables → AllByRecursion (λ (r : ℕ × ℕ). r.0 < 2 ^ 32) ranges → IfSome (call_at info lines i ranges) IsSmallLine
 call_small info lines i [] tables all = tt
 call_small info lines i (first ∷ others) tables all =
-    line_or_address (row_of (unit_line_table info lines i) (call_site_of info i)) first.0
-    (row_of_small (unit_line_table info lines i) (attribute_number info DW_AT_call_file i) (attribute_number info DW_AT_call_line i)
+    line_or_address (call_row (unit_line_table info lines i) (call_site_of info i)) first.0
+    (call_row_small (unit_line_table info lines i) (attribute_number info DW_AT_call_file i) (attribute_number info DW_AT_call_line i)
     (table_small lines.tables (option_and_then (λ (e : UnitEntry). e.context.stmt_list) (unit_entry info i)) tables)
     (number_small info DW_AT_call_file (unit_entry info i)) (number_small info DW_AT_call_line (unit_entry info i)))
     all.0
