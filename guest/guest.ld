@@ -33,6 +33,8 @@ SECTIONS
         . = ALIGN(SIZEOF(.tdata) + SIZEOF(.tbss) > 0 ? 64 : 1);
         PROVIDE(__tls_blocks = .);
         . += SIZEOF(.tdata) + SIZEOF(.tbss) > 0 ? (SIZEOF(.tdata) + SIZEOF(.tbss) + 126) / 64 * 64 * 64 : 0;
+        /* gcc reads the whole word of an object of two bytes, so the last word of the segment is whole. */
+        . = ALIGN(16);
     }
     ASSERT(MAX(ALIGNOF(.tdata), ALIGNOF(.tbss)) <= 64, "thread-local data are aligned to 64 bytes at most")
 }
