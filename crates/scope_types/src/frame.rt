@@ -1,7 +1,8 @@
-ghost use Rattle.std.specs.Prelude.{◌≡◌, fold};
+ghost use Rattle.std.specs.Prelude.{◌≡◌, IfOk, fold};
 ghost use Rattle.scope_types.specs.Raw.{HasFrames};
 ghost use Rattle.scope_types.specs.private.SameRaw.{packed, frame_writes};
 
+use prof_bytes::Memory;
 use std::hash::{Hash, Hasher};
 use std::marker::Model;
 
@@ -132,6 +133,16 @@ impl RawPath {
         ensures count { HasFrames self.now.frames }
     {
         self.frames.as_slice()
+    }
+
+    /// The same path once more.
+    pub fn copy(&self) -> Result<RawPath, Memory>
+        ensures { IfOk result (λ path. path ≡ self.now) }
+    {
+        Ok(RawPath {
+            end: self.end,
+            frames: self.frames.clone()?,
+        })
     }
 
     /// The list of the frames, whose memory may serve for another path.

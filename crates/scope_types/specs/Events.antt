@@ -1,0 +1,34 @@
+-- The events of a run that can be sampled, and which lists of them a run may have (HPCToolkit's manual, "Choosing
+-- Sampling Sources": several event sources, each with its own period).
+use Rattle.std.specs.Prelude.{ℕ, ◌<◌, ◌≤◌, List, [], ◌∷◌, All, length, codes}
+use Rattle.scope_types.specs.declared.event.Event.{Event}
+use Rattle.scope_types.specs.declared.event.Event.TheVariants.{Retired, Loads, Stores, Taken}
+use Rattle.scope_types.specs.declared.event.EventPeriod.{EventPeriod}
+
+-- the number of an event
+abbrev pub event_number : Event → ℕ
+event_number Retired = 0
+event_number Loads = 1
+event_number Stores = 2
+event_number Taken = 3
+
+-- its name
+abbrev pub event_name : Event → List ℕ
+event_name Retired = codes "retired"
+event_name Loads = codes "loads"
+event_name Stores = codes "stores"
+event_name Taken = codes "taken"
+
+-- each event has a greater number than the one before it
+abbrev pub AreAscending : List EventPeriod → Type 0
+AreAscending [] = Unit {0}
+AreAscending (first ∷ []) = Unit {0}
+AreAscending (first ∷ second ∷ rest) =
+    (event_number first.event < event_number second.event) × AreAscending (second ∷ rest)
+
+-- events that a run may have: at least one, each once and in the order of their numbers, so that there are four at most,
+-- and each with a period
+pub record AreEvents (events : List EventPeriod) : Type 0 where
+  pub some : 1 ≤ length events
+  pub ascending : AreAscending events
+  pub periods : All (λ e. 1 ≤ e.period) events
