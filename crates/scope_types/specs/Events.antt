@@ -1,6 +1,6 @@
 -- The events of a run that can be sampled, and which lists of them a run may have (HPCToolkit's manual, "Choosing
 -- Sampling Sources": several event sources, each with its own period).
-use Rattle.std.specs.Prelude.{ℕ, ◌<◌, ◌≤◌, List, [], ◌∷◌, All, length, codes}
+use Rattle.std.specs.Prelude.{ℕ, ◌<◌, ◌≤◌, ◌==◌, Bool, false, List, [], ◌∷◌, All, length, map, codes}
 use Rattle.scope_types.specs.declared.event.Event.{Event}
 use Rattle.scope_types.specs.declared.event.Event.TheVariants.{Retired, Loads, Stores, Taken}
 use Rattle.scope_types.specs.declared.event.EventPeriod.{EventPeriod}
@@ -32,3 +32,17 @@ pub record AreEvents (events : List EventPeriod) : Type 0 where
   pub some : 1 ≤ length events
   pub ascending : AreAscending events
   pub periods : All (λ e. 1 ≤ e.period) events
+
+-- the periods of events, in their order
+abbrev pub periods_of : List EventPeriod → List ℕ
+periods_of events = map (λ e. e.period) events
+
+-- retired instructions and no other event
+abbrev pub retired_every : ℕ → List EventPeriod
+retired_every period = record { event = Retired; period = period } ∷ []
+
+-- whether retired is the only event
+abbrev pub is_retired_alone : List EventPeriod → Bool
+is_retired_alone [] = false
+is_retired_alone (e ∷ []) = event_number e.event == 0
+is_retired_alone (e ∷ f ∷ rest) = false

@@ -1,5 +1,5 @@
 -- Raw paths, as an unwinder finds them (HPCToolkit's manual, "Call Path Profiling").
-use Rattle.std.specs.Prelude.{ℕ, List, ◌≤◌, ◌==◌, ◌&&◌, length, Bool, true, false}
+use Rattle.std.specs.Prelude.{List, ◌≤◌, ◌==◌, ◌&&◌, length, Bool, true, false}
 use Rattle.std.specs.Cmp.Lexicographic.{pointwise}
 use Rattle.scope_types.specs.Limits.{most_frames_of_path}
 use Rattle.scope_types.specs.declared.frame.Frame.{Frame}
