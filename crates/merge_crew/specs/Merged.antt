@@ -17,10 +17,10 @@ NamesEach plan crew = (s c : ℕ) → s < stripe_count → c < length plan
     → occurrences c (stripe_names crew.stripes.stripes s) ≡ 1
 
 -- every chunk's piece is in each stripe, by a given number of workers or by the caller: there was one pass for each
--- worker, and each drew a number past the last chunk, but for one at most. The passes drew as many numbers of chunks as
--- there are, and offered the sixteen pieces of each: they merged `merged` pieces, found `present` in their stripes, and
--- left `busy_left`. The caller settled the pieces that they did not merge. The passes found a stripe held or changed at
--- least 64 times for each piece left busy, and no piece is left busy by a worker that is alone
+-- worker. The passes drew at least as many numbers past the last chunk as there are workers, less one. They drew as many
+-- numbers of chunks as there are, and offered the sixteen pieces of each: they merged `merged` pieces, found `present`
+-- in their stripes, and left `busy_left`. The caller settled the pieces that they did not merge. The passes found a
+-- stripe held or changed at least 64 times for each piece left busy, and no piece is left busy by a worker that is alone
 pub record IsWhole (plan : Chunks) (workers : ℕ) (crew : Crew) : Type 0 where
   pub names : NamesEach plan crew
   pub drawn : crew.stripes.view.got ≡ length plan
