@@ -13,7 +13,7 @@ use Rattle.scope_types.specs.Alike.{Alike}
 use Rattle.scope_types.specs.CallPaths.{ColumnPath, entry_path, each_path}
 use Rattle.scope_types.specs.Key.{stripe}
 use Rattle.scope_types.specs.Limits.{most_samples, most_scopes_in_all}
-use Rattle.thread_cct.specs.Plan.{CountsSamples, IsMergeable}
+use Rattle.thread_cct.specs.Plan.{CountsSamples}
 use Rattle.tree_types.specs.Database.{node_list}
 use Rattle.tree_types.specs.Nodes.{nodes, no_parent}
 use Rattle.tree_types.specs.Tree.{CountedTree, paths_in}
@@ -22,7 +22,7 @@ use Rattle.path_trie.specs.Trie.{samples_of, trie_nodes}
 use Rattle.stripe_table.specs.Ends.{SetValue, AllFit, named_paths, stripe_names, paths_named_by, trie_of}
 use Rattle.stripe_table.specs.Limits.{Chunks, IsLimited, dealt}
 use Rattle.stripe_table.specs.declared.stripe.Stripe.{Stripe}
-use Rattle.tree_join.specs.Join.{stripe_parts}
+use Rattle.tree_join.specs.Join.{AreJoinable, stripe_parts}
 use Rattle.tree_join.proofs.Named.{named_sum, named_within, range_flat, range_le, range_same}
 use Rattle.tree_join.proofs.Paths.{HasPaths, IsOwn, each_own}
 use Rattle.tree_join.proofs.Several.{entries_in, parts_of, sum_parts}
@@ -65,18 +65,6 @@ module _ (plan : Chunks) (P : Entry → Type 0) (all : All (All P) plan) where
   dealt_all : (s c : ℕ) → All P (dealt plan c s)
   dealt_all s c = All-filter (λ e. stripe e.path == s) P (get_or plan c []) (at_chunk c)
 
-module _ (set : SetValue) (columns : ℕ) (plan : IsMergeable set.view.plan columns) where
-  all_own : All (IsOwn columns) (named_paths set)
-  unfolding named_paths
-  all_own =
-      flat_all (IsOwn columns) (paths_named_by set)
-      (λ s. flat_all (IsOwn columns) (λ c. each_path (dealt set.view.plan c s)) (λ c. each_own columns (dealt set.view.plan c s) (dealt_all set.view.plan (CountsSamples columns) plan.entries s c)) (stripe_names set.stripes s))
-      (range_with_len 0 16)
-
-  pub named_own : All (λ p. 0 < length p.path) (named_paths set) × All (λ p. p.column < columns) (named_paths set)
-  named_own =
-      (All-weaker (IsOwn columns) (λ p. 0 < length p.path) (λ p own. own.1) (named_paths set) all_own, All-weaker (IsOwn columns) (λ p. p.column < columns) (λ p own. own.0) (named_paths set) all_own)
-
 each_long : (es : List Entry) → length (each_path es) ≡ sum_by (λ e. e.count) es
 unfolding each_path
 each_long es = length-flat_map (λ (e : Entry). replicate e.count (entry_path e)) es ∙ (λ i. sum_by (λ (e : Entry). length-replicate e.count (entry_path e) i) es)
@@ -110,6 +98,26 @@ module _ (set : SetValue) (fit : AllFit set.view.plan set.stripes) where
     pub parts_all : All (All P) (stripe_parts set)
     unfolding stripe_parts
     parts_all = All-map (All P) (trie_of set.stripes) (range_with_len 0 16) (λ i d lt. trie_all (get_or (range_with_len 0 16) i d) (in_range i d lt))
+
+  -- what the stripes hold has paths of their columns
+  module _ (columns : ℕ) (held : AreJoinable set columns) where
+    pub all_held : All (CountsSamples columns) (flat_map (λ es. es) (stripe_parts set))
+    all_held = flat_parts_all (CountsSamples columns) (stripe_parts set) held
+
+    all_own : All (IsOwn columns) (named_paths set)
+    all_own = subst (All (IsOwn columns)) parts_paths (each_own columns (flat_map (λ es. es) (stripe_parts set)) all_held)
+
+    -- the paths that the stripes name have scopes, and columns that there are
+    abbrev Own : Type 0
+    Own = All (λ p. 0 < length p.path) (named_paths set) × All (λ p. p.column < columns) (named_paths set)
+
+    named_own : Own
+    named_own =
+        (All-weaker (IsOwn columns) (λ p. 0 < length p.path) (λ p own. own.1) (named_paths set) all_own, All-weaker (IsOwn columns) (λ p. p.column < columns) (λ p own. own.0) (named_paths set) all_own)
+
+    pub named_kept : (r : Result CountedTree Memory) → IfOk r (λ tree. Own)
+    named_kept (Ok tree) = named_own
+    named_kept (Err e) = tt
 
   stripe_long : (s : ℕ) → length (paths_named_by set s) ≡ named_sum set fit (λ e. e.count) s
   stripe_long s =
@@ -157,7 +165,7 @@ module _ (set : SetValue) (ts : List (Bor (List Entry))) (tries : parts_of ts �
       subst (λ (n : ℕ). n ≤ most_scopes_in_all) (ap (sum_by (λ (es : List Entry). length (trie_nodes es))) (sym tries) ∙ sum_parts (λ es. length (trie_nodes es)) entries_in ts)
       (parts_nodes set fit limited)
 
-  module _ (columns : ℕ) (plan : IsMergeable set.view.plan columns) where
+  module _ (columns : ℕ) (held : AreJoinable set columns) where
     tries_all : (us : List (Bor (List Entry))) → All (All (CountsSamples columns)) (parts_of us) → All (λ t. All (λ e. 0 < e.count → e.column < columns) t.now) us
     tries_all [] all = All-nil (λ t. All (λ e. 0 < e.count → e.column < columns) t.now)
     tries_all (u ∷ us) all =
@@ -167,7 +175,7 @@ module _ (set : SetValue) (ts : List (Bor (List Entry))) (tries : parts_of ts �
         (tries_all us (All-tail P (entries_in u) (parts_of us) all))
 
     own : All (All (CountsSamples columns)) (parts_of ts)
-    own = subst (All (All (CountsSamples columns))) (sym tries) (parts_all set fit (CountsSamples columns) plan.entries)
+    own = subst (All (All (CountsSamples columns))) (sym tries) held
 
     pub tries_columns : All (λ t. All (λ e. 0 < e.count → e.column < columns) t.now) ts
     tries_columns = tries_all ts own

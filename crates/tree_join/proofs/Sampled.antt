@@ -21,17 +21,20 @@ use Rattle.path_trie.specs.Trie.{count_of}
 use Rattle.path_trie.proofs.Samples.{nodes_of_samples, counts_of_samples, nodes_of_parts, counts_of_parts}
 use Rattle.stripe_table.specs.Ends.{SetValue, AllFit, NamesAll, named_paths, stripe_names, paths_named_by}
 use Rattle.stripe_table.specs.Limits.{Chunks, dealt}
-use Rattle.tree_join.specs.Join.{nodes_of_all, sampled_paths, stripe_parts}
+use Rattle.tree_join.specs.Join.{AreJoinable, nodes_of_all, sampled_paths, stripe_parts}
 use Rattle.tree_join.proofs.Named.{named_sum, named_whole}
-use Rattle.tree_join.proofs.Parts.{flat_parts_all, parts_all, parts_paths}
+use Rattle.tree_join.proofs.Parts.{all_held, parts_all, parts_paths}
 
 -- ---- the tries and the pieces
 
-pub nodes_named : (set : SetValue) (columns : ℕ) → AllFit set.view.plan set.stripes → IsMergeable set.view.plan columns → nodes (named_paths set) ≡ nodes_of_all (stripe_parts set)
-nodes_named set columns fit plan =
+pub nodes_named : (set : SetValue) (columns : ℕ) → AllFit set.view.plan set.stripes → AreJoinable set columns → nodes (named_paths set) ≡ nodes_of_all (stripe_parts set)
+nodes_named set columns fit held =
     let es : List Entry = flat_map (λ es. es) (stripe_parts set) in
-    let own : All (CountsSamples columns) es = flat_parts_all (CountsSamples columns) (stripe_parts set) (parts_all set fit (CountsSamples columns) plan.entries) in
-    ap nodes (sym (parts_paths set fit)) ∙ sym (nodes_of_samples es (All-weaker (CountsSamples columns) (λ e. 0 < e.count) (λ e c. c.some) es own)) ∙ nodes_of_parts (stripe_parts set)
+    ap nodes (sym (parts_paths set fit)) ∙ sym (nodes_of_samples es (All-weaker (CountsSamples columns) (λ e. 0 < e.count) (λ e c. c.some) es (all_held set fit columns held)))
+    ∙ nodes_of_parts (stripe_parts set)
+
+pub joinable : (set : SetValue) (columns : ℕ) → AllFit set.view.plan set.stripes → IsMergeable set.view.plan columns → AreJoinable set columns
+joinable set columns fit plan = parts_all set fit (CountsSamples columns) plan.entries
 
 pub counts_named : (set : SetValue) → AllFit set.view.plan set.stripes → (column : ℕ) (path : Path) → count_below ends_here (named_paths set) column path ≡ sum_by (λ es. count_of es column path) (stripe_parts set)
 counts_named set fit column path =
@@ -49,7 +52,7 @@ pub own_stripe : (plan : Chunks) (chunk s : ℕ) (e : Entry) → Contains (dealt
 own_stripe plan chunk s e there =
     eqb-true (stripe e.path) s (All-contains (λ e. (stripe e.path == s) ≡ true) (dealt plan chunk s) e (filter_true (λ e. stripe e.path == s) (get_or plan chunk [])) there)
 
-pub ruleset named_laws = (nodes_named, counts_named, own_stripe)
+pub ruleset named_laws = (nodes_named, joinable, counts_named, own_stripe)
 
 -- ---- where each stripe names each chunk
 

@@ -1,5 +1,5 @@
 -- Merged entries as a tree in preorder.
-use Rattle.std.specs.Prelude.{List, map}
+use Rattle.std.specs.Prelude.{ℕ, List, map, All}
 use Rattle.std.specs.List.{flat_map, range_with_len}
 use Rattle.scope_types.specs.CallPaths.{ColumnPath}
 use Rattle.scope_types.specs.Distinct.{ColumnRaw}
@@ -7,6 +7,7 @@ use Rattle.scope_types.specs.Raw.{Raw}
 use Rattle.scope_types.specs.declared.path.Entry.{Entry}
 use Rattle.scope_types.specs.declared.scope.Scope.{Scope}
 use Rattle.scope_types.specs.Order.{path_order}
+use Rattle.thread_cct.specs.Plan.{CountsSamples}
 use Rattle.tree_types.specs.Ascending.{ascending}
 use Rattle.tree_types.specs.Paths.{Path}
 use Rattle.path_trie.specs.Trie.{trie_nodes}
@@ -24,6 +25,10 @@ nodes_of_all parts = ascending path_order (flat_map trie_nodes parts)
 -- the entries that the sixteen stripes' tries stand for, stripe by stripe
 unfoldable pub stripe_parts : SetValue → List (List Entry)
 stripe_parts set = map (trie_of set.stripes) (range_with_len 0 stripe_count)
+
+-- what the stripes hold can be joined: each entry of theirs counts samples of one of so many columns
+abbrev pub AreJoinable : SetValue → ℕ → Type 0
+AreJoinable set columns = All (All (CountsSamples columns)) (stripe_parts set)
 
 -- the call paths of samples, in order
 abbrev pub sampled_paths : (Raw → List Scope) → List ColumnRaw → List ColumnPath

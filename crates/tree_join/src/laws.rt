@@ -14,13 +14,16 @@ ghost use Rattle.tree_types.specs.declared.content.Kind.{Kind};
 ghost use Rattle.path_trie.specs.Trie.{count_of};
 ghost use Rattle.stripe_table.specs.Ends.{AllFit, NamesAll, SetValue, named_paths};
 ghost use Rattle.stripe_table.specs.Limits.{Chunks, dealt};
-ghost use Rattle.tree_join.specs.Join.{nodes_of_all, sampled_paths, stripe_parts};
+ghost use Rattle.tree_join.specs.Join.{AreJoinable, nodes_of_all, sampled_paths, stripe_parts};
 
 /// The pieces that the stripes name have the nodes of the stripes' tries, and the sums of their counts.
 #[tactic(auto, using(crate::proofs::Sampled::named_laws))]
 pub fn stripes_hold_their_pieces()
     ensures nodes { (set : SetValue) (columns : ℕ) → AllFit set.view.plan set.stripes
-        → IsMergeable set.view.plan columns → nodes (named_paths set) ≡ nodes_of_all (stripe_parts set) }
+        → AreJoinable set columns → nodes (named_paths set) ≡ nodes_of_all (stripe_parts set) }
+    // whatever the stripes of a plan that can be merged hold can be joined
+    ensures joinable { (set : SetValue) (columns : ℕ) → AllFit set.view.plan set.stripes
+        → IsMergeable set.view.plan columns → AreJoinable set columns }
     ensures counts { (set : SetValue) → AllFit set.view.plan set.stripes → (column : ℕ) (path : Path)
         → count_below ends_here (named_paths set) column path
         ≡ sum_by (λ es. count_of es column path) (stripe_parts set) }

@@ -2,13 +2,12 @@
 ghost use Rattle.std.specs.Prelude.{◌≡◌, ◌<◌, ◌≤◌, length, map, All, IfOk};
 ghost use Rattle.scope_types.specs.Alike.{Alike};
 ghost use Rattle.scope_types.specs.Limits.{most_samples};
-ghost use Rattle.thread_cct.specs.Plan.{IsMergeable};
 ghost use Rattle.tree_types.specs.Database.{node_list};
 ghost use Rattle.tree_types.specs.Nodes.{nodes, no_parent};
 ghost use Rattle.tree_types.specs.Tree.{paths_in};
 ghost use Rattle.stripe_table.specs.Ends.{AllFit, named_paths};
 ghost use Rattle.stripe_table.specs.Limits.{IsLimited};
-ghost use Rattle.tree_join.specs.Join.{stripe_parts};
+ghost use Rattle.tree_join.specs.Join.{AreJoinable, stripe_parts};
 
 use crate::join::join_tries;
 use path_trie::Trie;
@@ -33,14 +32,14 @@ fn tries_of(alloc: Global, set: &StripeSet) -> Result<Vec<&Trie>, Memory>
 /// The tree of all stripes together, for a given number of columns: its paths are those of the pieces that the stripes
 /// name.
 pub fn join_stripes(alloc: Global, stripes: &StripeSet, columns: u32) -> Result<Tree, Memory>
-    requires plan { IsMergeable stripes.now.view.plan columns }
+    requires held { AreJoinable stripes.now columns }
     ensures columns { IfOk result (λ tree. tree.columns ≡ columns) }
     ensures nodes { IfOk result (λ tree. tree.nodes ≡ node_list (named_paths stripes.now)) }
     ensures few { IfOk result (λ tree. length (nodes (named_paths stripes.now)) ≤ no_parent) }
     ensures paths { IfOk result (λ tree. Alike (paths_in tree) (named_paths stripes.now)) }
     ensures samples { IfOk result (λ _. length (named_paths stripes.now) ≤ most_samples) }
-    ensures own { All (λ p. 0 < length p.path) (named_paths stripes.now)
-        × All (λ p. p.column < columns) (named_paths stripes.now) }
+    ensures own { IfOk result (λ _. All (λ p. 0 < length p.path) (named_paths stripes.now)
+        × All (λ p. p.column < columns) (named_paths stripes.now)) }
 {
     let tries = tries_of(alloc, stripes)?;
     join_tries(alloc, tries.as_slice(), columns)

@@ -37,7 +37,9 @@ fn joined<E: Expand>(
     requires roots { (raw : Raw) → 0 < length (E.call_path expand.now raw) }
 {
     plans_can_be_merged();
+    stripes_hold_their_pieces();
     let _same = expand;
+    let _names = set.names(0);
     join_stripes(alloc, set, plan.columns())
 }
 
