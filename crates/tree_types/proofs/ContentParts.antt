@@ -45,11 +45,11 @@ pub own_nodes : (c : Content) → IsOfPaths c → c.nodes ≡ node_list (paths_o
 unfolding content_of
 own_nodes c own = sym (ap (λ (x : Content). x.nodes) own)
 
-pub own_profiles : (c : Content) → IsOfPaths c → c.profiles ≡ profile_plane c.period c.columns (paths_of c)
+pub own_profiles : (c : Content) → IsOfPaths c → c.profiles ≡ profile_plane (λ column. c.period) c.columns (paths_of c)
 unfolding content_of
 own_profiles c own = sym (ap (λ (x : Content). x.profiles) own)
 
-pub own_contexts : (c : Content) → IsOfPaths c → c.contexts ≡ context_plane c.period c.columns (paths_of c)
+pub own_contexts : (c : Content) → IsOfPaths c → c.contexts ≡ context_plane (λ column. c.period) c.columns (paths_of c)
 unfolding content_of
 own_contexts c own = sym (ap (λ (x : Content). x.contexts) own)
 
@@ -57,10 +57,10 @@ pub own_node_count : (c : Content) → IsOfPaths c → length c.nodes ≡ length
 own_node_count c own = ap length (own_nodes c own) ∙ nodes_listed (paths_of c)
 
 pub own_list_count : (c : Content) → IsOfPaths c → length c.contexts ≡ length c.nodes
-own_list_count c own = ap length (own_contexts c own) ∙ length-map (nodes (paths_of c)) (context_entries c.period c.columns (paths_of c)) ∙ sym (own_node_count c own)
+own_list_count c own = ap length (own_contexts c own) ∙ length-map (nodes (paths_of c)) (context_entries (λ column. c.period) c.columns (paths_of c)) ∙ sym (own_node_count c own)
 
 pub own_column_count : (c : Content) → IsOfPaths c → length c.profiles ≡ c.columns
-own_column_count c own = ap length (own_profiles c own) ∙ length-map-range_with_len (profile_entries c.period (paths_of c)) 0 c.columns
+own_column_count c own = ap length (own_profiles c own) ∙ length-map-range_with_len (profile_entries (λ column. c.period) (paths_of c)) 0 c.columns
 
 own_names : (c : Content) → IsOfPaths c → names_used (naming_in c.names) (paths_of c) ≡ c.names
 unfolding content_of
@@ -78,7 +78,7 @@ all_counted {X} (x ∷ xs) =
     let rest = all_counted xs in
     omega (arith, first, rest)
 
-as_long : {X : Type 0} (xs ys : List X) → Alike xs ys → length xs ≡ length ys
+pub as_long : {X : Type 0} (xs ys : List X) → Alike xs ys → length xs ≡ length ys
 as_long xs ys alike = sym (all_counted xs) ∙ alike.same (λ x. true) ∙ all_counted ys
 
 pub profile_of_paths : (period columns : ℕ) (naming : Naming) (ps : List ColumnPath) → 0 < period → length (nodes ps) ≤ no_parent → All (λ p. 0 < length p.path) ps → All (λ p. p.column < columns) ps

@@ -30,3 +30,6 @@ pub mod WholeValues
 pub mod CountedPaths
 pub mod Selecting
 pub mod ValuePlanes
+pub mod EventPaths
+pub mod EventParts
+pub mod OneEvent

@@ -1,7 +1,7 @@
 -- The names of a content serve as well as those that it was made with.
-use Rattle.std.proofs.Common.{◌≡◌, ℕ, ◌-◌, ◌*◌, ◌<◌, ◌≤◌, true, false, cond, ◌||◌, List, [], ◌∷◌, ◌++◌, length, map, All, Contains, codes, decimal, refl, sym, ap, subst, ◌∙◌, true≢false}
+use Rattle.std.proofs.Common.{◌≡◌, ℕ, ◌-◌, ◌*◌, ◌<◌, ◌≤◌, true, false, cond, ◌||◌, Bool, List, [], ◌∷◌, ◌++◌, length, map, All, Contains, codes, decimal, refl, sym, ap, subst, ◌∙◌, true≢false}
 use Rattle.std.specs.FinMap.{IsAntisymmetric, nat_cmp-IsAntisymmetric, slice_cmp-IsAntisymmetric}
-use Rattle.std.specs.List.{flat_map, AllByRecursion}
+use Rattle.std.specs.List.{flat_map, list_any, AllByRecursion}
 use Rattle.std.specs.Cmp.{IsTotalOrder}
 use Rattle.std.specs.Ordering.{eq_by_cmp}
 use Rattle.std.proofs.lemmas.Cmp.{on_total, nat_list_cmp_total}
@@ -79,19 +79,25 @@ file_found naming (u ∷ us) f h =
 
 -- ---- what a node's scope uses is there
 
-proc_used : (ns : List Path) (n : Path) (id : ProcId) → Contains ns n → has proc_order id (scope_procs (own_scope n)) ≡ true → has proc_order id (procs_used ns) ≡ true
+uses_proc : (ns : List Path) (id : ProcId) → has proc_order id (procs_used ns) ≡ list_any (λ n. has proc_order id (scope_procs (own_scope n))) ns
 unfolding procs_used
+uses_proc ns id =
+    has_ascending proc_order_total proc_order_tells id (flat_map (λ n. scope_procs (own_scope n)) ns) ∙ list_any-flat_map (eq_by_cmp proc_order id) (λ n. scope_procs (own_scope n)) ns
+
+uses_file : (ns : List Path) (f : FileId) → has file_order f (files_used ns) ≡ list_any (λ n. has file_order f (scope_files (own_scope n))) ns
+unfolding files_used
+uses_file ns f =
+    has_ascending file_order_total file_order_tells f (flat_map (λ n. scope_files (own_scope n)) ns) ∙ list_any-flat_map (eq_by_cmp file_order f) (λ n. scope_files (own_scope n)) ns
+
+proc_used : (ns : List Path) (n : Path) (id : ProcId) → Contains ns n → has proc_order id (scope_procs (own_scope n)) ≡ true → has proc_order id (procs_used ns) ≡ true
 proc_used ns n id c h =
     let t = λ (n : Path). has proc_order id (scope_procs (own_scope n)) in
-    has_ascending proc_order_total proc_order_tells id (flat_map (λ n. scope_procs (own_scope n)) ns) ∙ list_any-flat_map (eq_by_cmp proc_order id) (λ n. scope_procs (own_scope n)) ns
-    ∙ list_any_at t ns c.0 n c.1 (subst (λ (z : Path). t z ≡ true) (sym c.2) h)
+    uses_proc ns id ∙ list_any_at t ns c.0 n c.1 (subst (λ (z : Path). t z ≡ true) (sym c.2) h)
 
 file_used : (ns : List Path) (n : Path) (f : FileId) → Contains ns n → has file_order f (scope_files (own_scope n)) ≡ true → has file_order f (files_used ns) ≡ true
-unfolding files_used
 file_used ns n f c h =
     let t = λ (n : Path). has file_order f (scope_files (own_scope n)) in
-    has_ascending file_order_total file_order_tells f (flat_map (λ n. scope_files (own_scope n)) ns) ∙ list_any-flat_map (eq_by_cmp file_order f) (λ n. scope_files (own_scope n)) ns
-    ∙ list_any_at t ns c.0 n c.1 (subst (λ (z : Path). t z ≡ true) (sym c.2) h)
+    uses_file ns f ∙ list_any_at t ns c.0 n c.1 (subst (λ (z : Path). t z ≡ true) (sym c.2) h)
 
 -- ---- the same labels
 
@@ -125,21 +131,40 @@ named_proc id name = record { id = id; name = name }
 abbrev named_file : FileId → List ℕ → FileName
 named_file f name = record { table = f.0; file = f.1; name = name }
 
-names_again : (naming : Naming) (ps : List ColumnPath) → names_used (naming_in (names_used naming ps)) ps ≡ names_used naming ps
-names_again naming ps =
-    let us : List ProcId = procs_used (nodes ps) in let fs : List FileId = files_used (nodes ps) in
+-- ---- names for paths whose nodes are among those that the names are for
+
+any_within : {X : Type 0} (t : X → Bool) (xs ys : List X) → ((x : X) → Contains xs x → Contains ys x) → list_any t xs ≡ true → list_any t ys ≡ true
+any_within {X} t xs ys within e = from xs (each (λ x. Contains ys x) xs within) e
+  where
+    from : (zs : List X) → AllByRecursion (λ x. Contains ys x) zs → list_any t zs ≡ true → list_any t ys ≡ true
+    from [] all k = absurd (true≢false (sym k))
+    from (z ∷ zs) all k = elim (t z) as (λ b. t z ≡ b → (b || list_any t zs) ≡ true → list_any t ys ≡ true) [
+      | true ↦ λ h f. list_any_at t ys all.0.0 z all.0.1 (subst (λ (x : X). t x ≡ true) (sym all.0.2) h)
+      | false ↦ λ h f. from zs all.1 f
+    ] refl k
+
+names_within : (naming : Naming) (ps qs : List ColumnPath) → ((n : Path) → Contains (nodes qs) n → Contains (nodes ps) n) → names_used (naming_in (names_used naming ps)) qs ≡ names_used naming qs
+names_within naming ps qs within =
+    let us : List ProcId = procs_used (nodes qs) in let fs : List FileId = files_used (nodes qs) in
     let own : Naming = naming_in (names_used naming ps) in
-    let p : map (λ id. record { id = id; name = own.proc_name id }) us ≡ (names_used naming ps).procs =
+    let p : map (λ id. record { id = id; name = own.proc_name id }) us ≡ (names_used naming qs).procs =
     map_same (λ id. record { id = id; name = own.proc_name id }) (λ id. record { id = id; name = naming.proc_name id }) us
-    (each (λ id. named_proc id (own.proc_name id) ≡ named_proc id (naming.proc_name id)) us (λ id c. ap (named_proc id) (proc_found naming us id (has-from_Contains proc_order_total proc_order_tells id us c)))) in
-    let f : map (λ f. record { table = f.0; file = f.1; name = own.file_name f.0 f.1 }) fs ≡ (names_used naming ps).files =
+    (each (λ id. named_proc id (own.proc_name id) ≡ named_proc id (naming.proc_name id)) us (λ id c. ap (named_proc id) (proc_found naming (procs_used (nodes ps)) id
+    (uses_proc (nodes ps) id ∙ any_within (λ n. has proc_order id (scope_procs (own_scope n))) (nodes qs) (nodes ps) within (sym (uses_proc (nodes qs) id) ∙ has-from_Contains proc_order_total proc_order_tells id us c))))) in
+    let f : map (λ f. record { table = f.0; file = f.1; name = own.file_name f.0 f.1 }) fs ≡ (names_used naming qs).files =
     map_same (λ f. record { table = f.0; file = f.1; name = own.file_name f.0 f.1 }) (λ f. record { table = f.0; file = f.1; name = naming.file_name f.0 f.1 }) fs
-    (each (λ f. named_file f (own.file_name f.0 f.1) ≡ named_file f (naming.file_name f.0 f.1)) fs (λ f c. ap (named_file f) (file_found naming fs f (has-from_Contains file_order_total file_order_tells f fs c)))) in
+    (each (λ f. named_file f (own.file_name f.0 f.1) ≡ named_file f (naming.file_name f.0 f.1)) fs (λ f c. ap (named_file f) (file_found naming (files_used (nodes ps)) f
+    (uses_file (nodes ps) f ∙ any_within (λ n. has file_order f (scope_files (own_scope n))) (nodes qs) (nodes ps) within (sym (uses_file (nodes qs) f) ∙ has-from_Contains file_order_total file_order_tells f fs c))))) in
     λ i. record { procs = p i; files = f i }
 
-own_names_content : (period columns : ℕ) (naming : Naming) (ps : List ColumnPath) → content_of period columns (naming_in (names_used naming ps)) ps ≡ content_of period columns naming ps
+pub names_again : (naming : Naming) (ps : List ColumnPath) → names_used (naming_in (names_used naming ps)) ps ≡ names_used naming ps
+names_again naming ps = names_within naming ps ps (λ n c. c)
+
+-- a content of such paths is the same under the names
+pub content_within : (period columns : ℕ) (naming : Naming) (ps qs : List ColumnPath) → ((n : Path) → Contains (nodes qs) n → Contains (nodes ps) n)
+    → content_of period columns (naming_in (names_used naming ps)) qs ≡ content_of period columns naming qs
 unfolding content_of
-own_names_content period columns naming ps = ap (λ (x : Names). record (content_of period columns naming ps) { names = x }) (names_again naming ps)
+content_within period columns naming ps qs within = ap (λ (x : Names). record (content_of period columns naming qs) { names = x }) (names_within naming ps qs within)
 
 abbrev row_with : ℕ → ℕ → List ColumnPath → Path → List ℕ → List ℕ
 row_with period columns ps n text =
@@ -159,7 +184,7 @@ own_names_table period columns naming ps =
 pub content_is_own : (period columns : ℕ) (naming : Naming) (ps : List ColumnPath) → 0 < period → length (nodes ps) ≤ no_parent → All (λ p. 0 < length p.path) ps → All (λ p. p.column < columns) ps
     → content_of period columns (naming_in (names_used naming ps)) (paths_of (content_of period columns naming ps)) ≡ content_of period columns naming ps
 content_is_own period columns naming ps positive few some below =
-    content_alike period columns (naming_in (names_used naming ps)) (paths_of (content_of period columns naming ps)) ps (paths_alike period columns naming ps positive few some below) ∙ own_names_content period columns naming ps
+    content_alike period columns (naming_in (names_used naming ps)) (paths_of (content_of period columns naming ps)) ps (paths_alike period columns naming ps positive few some below) ∙ content_within period columns naming ps ps (λ n c. c)
 
 pub table_is_own : (period columns : ℕ) (naming : Naming) (ps : List ColumnPath) → 0 < period → length (nodes ps) ≤ no_parent → All (λ p. 0 < length p.path) ps → All (λ p. p.column < columns) ps
     → top_down period columns (naming_in (names_used naming ps)) (paths_of (content_of period columns naming ps)) ≡ top_down period columns naming ps

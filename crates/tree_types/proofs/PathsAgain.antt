@@ -1,29 +1,35 @@
 -- The paths that a content holds give its nodes and values again.
-use Rattle.std.proofs.Common.{◌≡◌, ℕ, zero, suc, Contains, IsPermutation, ◌+◌, ◌*◌, ◌/◌, ◌-◌, ◌<◌, ◌≤◌, Bool, true, false, cond, ◌&&◌, ◌||◌, not, List, [], ◌∷◌, ◌++◌, length, All, get_or, replicate, map, filter, count_by, sum_by, ◌==◌, decimal, is_eq, refl, sym, ap, subst, ◌∙◌, true≢false, arith, mul-zero, mul-div_cancel, mul_comm}
+use Rattle.std.proofs.Common.{◌≡◌, ℕ, zero, suc, Contains, IsPermutation, ◌+◌, ◌*◌, ◌/◌, ◌%◌, ◌-◌, ◌<◌, ◌≤◌, Bool, true, false, cond, ◌&&◌, ◌||◌, not, List, [], ◌∷◌, ◌++◌, length, All, get_or, replicate, map, filter, count_by, sum_by, ◌==◌, decimal, is_eq, refl, sym, ap, subst, ◌∙◌, true≢false, arith, mul-zero, mul-div_cancel, mul_comm}
 use Rattle.std.specs.List.{list_any, flat_map, enumerate_from, range_with_len, AllByRecursion}
 use Rattle.std.specs.Ordering.{eq_by_cmp}
 use Rattle.std.specs.List.Sorted.{IsStrictlySortedBy}
 use Rattle.std.proofs.lemmas.Bool.{true_from_ne_false, and_parts, and_from, eqb-true}
 use Rattle.std.proofs.lemmas.Cmp.{tied_itself}
-use Rattle.std.proofs.lemmas.List.{append-nil}
+use Rattle.std.proofs.lemmas.Nat.{mod_below}
+use Rattle.std.proofs.lemmas.List.{append-nil, get_or-map, length-map}
 use Rattle.std.proofs.lemmas.List.Sums.{sum_by-cons, sum_by-append}
 use Rattle.std.proofs.lemmas.List.Sorted.{sum_by-IsPermutation}
 use Rattle.std.proofs.lemmas.List.Elements.{recursion_from_All, All-contains_itself}
 use Rattle.prof_bytes.proofs.Tests.{and_true, and_false}
 use Rattle.scope_types.specs.CallPaths.{ColumnPath}
+use Rattle.scope_types.specs.Columns.{columns_of, period_of_column}
+use Rattle.scope_types.specs.Events.{AreEvents, periods_of}
+use Rattle.scope_types.specs.declared.event.Event.TheVariants.{Retired}
+use Rattle.scope_types.specs.declared.event.EventPeriod.{EventPeriod}
 use Rattle.scope_types.specs.Order.{path_order}
 use Rattle.scope_types.proofs.Orders.{path_order_total, path_order_tells}
-use Rattle.tree_types.specs.declared.content.Content.{Content}
+use Rattle.tree_types.specs.declared.content.ContextEntry.{ContextEntry}
+use Rattle.tree_types.specs.declared.content.Names.{Names}
 use Rattle.tree_types.specs.declared.content.Kind.{Kind}
 use Rattle.tree_types.specs.declared.content.Kind.TheVariants.{Frame, Inclusive}
 use Rattle.tree_types.specs.declared.content.ProfileEntry.{ProfileEntry}
 use Rattle.tree_types.specs.Paths.{Path, prefixes, after_prefix, rest_passes}
 use Rattle.tree_types.specs.Nodes.{nodes, no_parent, own_scope, parent_number}
 use Rattle.tree_types.specs.Values.{value, ends_here, counts_for, count_below, columns_below}
-use Rattle.tree_types.specs.Planes.{kinds, profile_entry, context_entry, node_values, other_than_zero, profile_entries, context_entries}
+use Rattle.tree_types.specs.Planes.{kinds, profile_entry, context_entry, node_values, other_than_zero, profile_entries, context_entries, profile_plane, context_plane}
 use Rattle.tree_types.specs.Naming.{Naming, procs_used, files_used}
-use Rattle.tree_types.specs.Database.{content_of}
-use Rattle.tree_types.specs.PathsOf.{entry_paths, is_exclusive, paths_of}
+use Rattle.tree_types.specs.Database.{content_of, event_content_of, names_used, node_list, period_at}
+use Rattle.tree_types.specs.PathsOf.{entry_paths, event_paths_of, is_exclusive, paths_of, plane_paths}
 use Rattle.scope_types.specs.Alike.{Alike}
 use Rattle.tree_types.specs.TopDown.{header, table_row, percent, label, top_down}
 use Rattle.tree_types.proofs.Sorting.{has, bool_same, same_sorted, equal_from_is, has-from_Contains}
@@ -78,15 +84,15 @@ at_column column path = record { column = column; path = path }
 abbrev counts : (Path → Bool) → ℕ → Path → ColumnPath → Bool
 counts test column n p = (p.column == column) && rest_passes test (after_prefix n p.path)
 
-module _ (period : ℕ) (ps : List ColumnPath) (positive : 0 < period) (q : ColumnPath → Bool) where
+module _ (period : ℕ → ℕ) (ps : List ColumnPath) (positive : (column : ℕ) → 0 < period column) (q : ColumnPath → Bool) where
   abbrev from_entry : ℕ → ProfileEntry → ℕ
-  from_entry column e = count_by q (entry_paths period (nodes ps) column e)
+  from_entry column e = count_by q (entry_paths (period column) (nodes ps) column e)
 
   no_value : (column : ℕ) (e : ProfileEntry) → not (e.value == 0) ≡ false → from_entry column e ≡ 0
   no_value column e none =
       let z : e.value ≡ 0 = eqb-true e.value 0 (not_not (e.value == 0) none) in
-      elim (is_exclusive e.kind) as (λ b. count_by q (cond b (replicate (e.value / period) (at_column column (get_or (nodes ps) e.node []))) []) ≡ 0) [
-        | true ↦ ap (λ (k : ℕ). count_by q (replicate k (at_column column (get_or (nodes ps) e.node [])))) (ap (λ (v : ℕ). v / period) z ∙ zero_over period)
+      elim (is_exclusive e.kind) as (λ b. count_by q (cond b (replicate (e.value / period column) (at_column column (get_or (nodes ps) e.node []))) []) ≡ 0) [
+        | true ↦ ap (λ (k : ℕ). count_by q (replicate k (at_column column (get_or (nodes ps) e.node [])))) (ap (λ (v : ℕ). v / period column) z ∙ zero_over (period column))
         | false ↦ refl
       ]
     where
@@ -101,8 +107,9 @@ module _ (period : ℕ) (ps : List ColumnPath) (positive : 0 < period) (q : Colu
   from_node column x =
       let y : ColumnPath = at_column column (get_or (nodes ps) x.0 []) in
       let k : ℕ = count_below ends_here ps column x.1 in
-      let whole : (period * k) / period ≡ k = ap (λ (v : ℕ). v / period) (mul_comm period k) ∙ mul-div_cancel k positive in
-      let a : sum_by (from_entry column) (node_values period ps column x) ≡ count_by q (replicate ((period * k) / period) y) = three (count_by q (replicate ((period * k) / period) y)) in
+      let p : ℕ = period column in
+      let whole : (p * k) / p ≡ k = ap (λ (v : ℕ). v / p) (mul_comm p k) ∙ mul-div_cancel k (positive column) in
+      let a : sum_by (from_entry column) (node_values period ps column x) ≡ count_by q (replicate ((p * k) / p) y) = three (count_by q (replicate ((p * k) / p) y)) in
       a ∙ ap (λ (j : ℕ). count_by q (replicate j y)) whole ∙ count_copies q k y
     where
       three : (n : ℕ) → ((0 + n) + 0) + 0 ≡ n
@@ -116,12 +123,11 @@ module _ (period : ℕ) (ps : List ColumnPath) (positive : 0 < period) (q : Colu
       ∙ (λ i. sum_by (λ x. from_node column x i) (enumerate_from 0 (nodes ps)))
       ∙ looked_up (λ a b. one (q (at_column column a)) * count_below ends_here ps column b) (nodes ps) 0 (nodes ps) (λ k lt. ap (λ (j : ℕ). get_or (nodes ps) j []) (let e : 0 + k ≡ k = omega arith in e))
 
-  pub from_all : (columns : ℕ) (naming : Naming) → length (nodes ps) ≤ no_parent → count_by q (paths_of (content_of period columns naming ps)) ≡ sum_by (λ h. sum_by (λ m. one (q (at_column h m)) * count_below ends_here ps h m) (nodes ps)) (columns_below columns)
-  unfolding paths_of content_of
-  from_all columns naming few =
-      ap (λ (t : List Path). count_by q (flat_map (λ numbered. flat_map (entry_paths period t numbered.0) numbered.1) (enumerate_from 0 (map (profile_entries period ps) (columns_below columns))))) (tree_paths_is ps few)
-      ∙ count_by-flat_map q (λ (list : ℕ × List ProfileEntry). flat_map (entry_paths period (nodes ps) list.0) list.1) (enumerate_from 0 (map (profile_entries period ps) (columns_below columns)))
-      ∙ (λ i. sum_by (λ (list : ℕ × List ProfileEntry). count_by-flat_map q (entry_paths period (nodes ps) list.0) list.1 i) (enumerated (profile_entries period ps) 0 columns i))
+  pub from_all : (columns : ℕ) → length (nodes ps) ≤ no_parent → count_by q (plane_paths period (node_list ps) (profile_plane period columns ps)) ≡ sum_by (λ h. sum_by (λ m. one (q (at_column h m)) * count_below ends_here ps h m) (nodes ps)) (columns_below columns)
+  from_all columns few =
+      ap (λ (t : List Path). count_by q (flat_map (λ numbered. flat_map (entry_paths (period numbered.0) t numbered.0) numbered.1) (enumerate_from 0 (map (profile_entries period ps) (columns_below columns))))) (tree_paths_is ps few)
+      ∙ count_by-flat_map q (λ (list : ℕ × List ProfileEntry). flat_map (entry_paths (period list.0) (nodes ps) list.0) list.1) (enumerate_from 0 (map (profile_entries period ps) (columns_below columns)))
+      ∙ (λ i. sum_by (λ (list : ℕ × List ProfileEntry). count_by-flat_map q (entry_paths (period list.0) (nodes ps) list.0) list.1 i) (enumerated (profile_entries period ps) 0 columns i))
       ∙ sum_by-map (λ (list : ℕ × List ProfileEntry). sum_by (from_entry list.0) list.1) (λ h. (h, profile_entries period ps h)) (columns_below columns)
       ∙ (λ i. sum_by (λ h. from_column h i) (columns_below columns))
 
@@ -192,14 +198,14 @@ counted_at_nodes ns columns q qs sorted there below =
     ∙ sums_swap (λ (h : ℕ) (p : ColumnPath). (p.column == h) && q p) (columns_below columns) qs
     ∙ over_columns q columns qs below
 
--- the paths of a content count as the paths that it was made of
-pub counts_again : (period columns : ℕ) (naming : Naming) (ps : List ColumnPath) (q : ColumnPath → Bool) → 0 < period → length (nodes ps) ≤ no_parent → All (λ p. 0 < length p.path) ps → All (λ p. p.column < columns) ps
-    → count_by q (paths_of (content_of period columns naming ps)) ≡ count_by q ps
-counts_again period columns naming ps q positive few some below =
+-- the paths that nodes and a plane have count as the paths that these were made of
+counts_again : (period : ℕ → ℕ) (columns : ℕ) (ps : List ColumnPath) (q : ColumnPath → Bool) → ((column : ℕ) → 0 < period column) → length (nodes ps) ≤ no_parent → All (λ p. 0 < length p.path) ps → All (λ p. p.column < columns) ps
+    → count_by q (plane_paths period (node_list ps) (profile_plane period columns ps)) ≡ count_by q ps
+counts_again period columns ps q positive few some below =
     let ns : List Path = nodes ps in
     let there : AllByRecursion (λ (p : ColumnPath). has path_order p.path ns ≡ true) ps =
     are_nodes ps ps (recursion_from_All (Contains ps) ps (All-contains_itself ps)) (recursion_from_All (λ (p : ColumnPath). 0 < length p.path) ps some) in
-    from_all period ps positive q columns naming few
+    from_all period ps positive q columns few
     ∙ counted_at_nodes ns columns q ps (sorted_nodes ps) there (recursion_from_All (λ (p : ColumnPath). p.column < columns) ps below)
   where
     are_nodes : (ps qs : List ColumnPath) → AllByRecursion (Contains ps) qs → AllByRecursion (λ (p : ColumnPath). 0 < length p.path) qs → AllByRecursion (λ (p : ColumnPath). has path_order p.path (nodes ps) ≡ true) qs
@@ -237,29 +243,68 @@ pub all_count : (ps : List ColumnPath) → count_by (λ (p : ColumnPath). true) 
 all_count [] = refl
 all_count (p ∷ ps) = let a = count_by-cons (λ (p : ColumnPath). true) p ps in let b = all_count ps in omega arith
 
--- a content, and a table, from the nodes and the values alone
-abbrev content_from : ℕ → ℕ → Naming → List Path → (ℕ → Path → Kind → ℕ) → Content
-content_from period columns naming ns v = record {
-  period = period;
-  columns = columns;
-  names = record {
-    procs = map (λ id. record { id = id; name = naming.proc_name id }) (procs_used ns);
-    files = map (λ f. record { table = f.0; file = f.1; name = naming.file_name f.0 f.1 }) (files_used ns);
-  };
-  nodes = map (λ n. record { parent = parent_number ns n; scope = own_scope n }) ns;
-  profiles = map (λ column. other_than_zero (flat_map (λ (n : ℕ × Path). map (λ kind. profile_entry n.0 kind (v column n.1 kind)) kinds) (enumerate_from 0 ns))) (columns_below columns);
-  contexts = map (λ n. flat_map (λ kind. filter (λ e. not (e.value == 0)) (map (λ column. context_entry kind column (v column n kind)) (columns_below columns))) kinds) ns;
+-- names, planes and a table, from the nodes and the values alone
+abbrev names_from : Naming → List Path → Names
+names_from naming ns = record {
+  procs = map (λ id. record { id = id; name = naming.proc_name id }) (procs_used ns);
+  files = map (λ f. record { table = f.0; file = f.1; name = naming.file_name f.0 f.1 }) (files_used ns);
 }
 
-content_is : (period columns : ℕ) (naming : Naming) (ps : List ColumnPath) → content_of period columns naming ps ≡ content_from period columns naming (nodes ps) (value period ps)
-unfolding content_of profile_entries context_entries
-content_is period columns naming ps = refl
+pub names_alike : (naming : Naming) (ps qs : List ColumnPath) → Alike ps qs → names_used naming ps ≡ names_used naming qs
+names_alike naming ps qs alike = ap (names_from naming) (nodes_alike ps qs alike)
+
+pub listed_alike : (ps qs : List ColumnPath) → Alike ps qs → node_list ps ≡ node_list qs
+listed_alike ps qs alike = ap (λ (ns : List Path). map (λ n. record { parent = parent_number ns n; scope = own_scope n }) ns) (nodes_alike ps qs alike)
+
+abbrev profiles_from : ℕ → List Path → (ℕ → Path → Kind → ℕ) → List (List ProfileEntry)
+profiles_from columns ns v =
+    map (λ column. other_than_zero (flat_map (λ (n : ℕ × Path). map (λ kind. profile_entry n.0 kind (v column n.1 kind)) kinds) (enumerate_from 0 ns))) (columns_below columns)
+
+profiles_are : (period : ℕ → ℕ) (columns : ℕ) (ps : List ColumnPath) → profile_plane period columns ps ≡ profiles_from columns (nodes ps) (λ column. value (period column) ps column)
+unfolding profile_entries
+profiles_are period columns ps = refl
+
+pub profiles_alike : (period : ℕ → ℕ) (columns : ℕ) (ps qs : List ColumnPath) → Alike ps qs → profile_plane period columns ps ≡ profile_plane period columns qs
+profiles_alike period columns ps qs alike =
+    profiles_are period columns ps
+    ∙ (λ i. profiles_from columns (nodes_alike ps qs alike i) (λ column n kind. values_alike (period column) ps qs alike column n kind i))
+    ∙ sym (profiles_are period columns qs)
+
+abbrev contexts_from : ℕ → List Path → (ℕ → Path → Kind → ℕ) → List (List ContextEntry)
+contexts_from columns ns v =
+    map (λ n. flat_map (λ kind. filter (λ e. not (e.value == 0)) (map (λ column. context_entry kind column (v column n kind)) (columns_below columns))) kinds) ns
+
+contexts_are : (period : ℕ → ℕ) (columns : ℕ) (ps : List ColumnPath) → context_plane period columns ps ≡ contexts_from columns (nodes ps) (λ column. value (period column) ps column)
+unfolding context_entries
+contexts_are period columns ps = refl
+
+pub contexts_alike : (period : ℕ → ℕ) (columns : ℕ) (ps qs : List ColumnPath) → Alike ps qs → context_plane period columns ps ≡ context_plane period columns qs
+contexts_alike period columns ps qs alike =
+    contexts_are period columns ps
+    ∙ (λ i. contexts_from columns (nodes_alike ps qs alike i) (λ column n kind. values_alike (period column) ps qs alike column n kind i))
+    ∙ sym (contexts_are period columns qs)
 
 pub content_alike : (period columns : ℕ) (naming : Naming) (ps qs : List ColumnPath) → Alike ps qs → content_of period columns naming ps ≡ content_of period columns naming qs
-content_alike period columns naming ps qs alike =
-    content_is period columns naming ps
-    ∙ (λ i. content_from period columns naming (nodes_alike ps qs alike i) (λ column n kind. values_alike period ps qs alike column n kind i))
-    ∙ sym (content_is period columns naming qs)
+unfolding content_of
+content_alike period columns naming ps qs alike = λ i. record {
+  period = period;
+  columns = columns;
+  names = names_alike naming ps qs alike i;
+  nodes = listed_alike ps qs alike i;
+  profiles = profiles_alike (λ column. period) columns ps qs alike i;
+  contexts = contexts_alike (λ column. period) columns ps qs alike i;
+}
+
+pub event_content_alike : (events : List EventPeriod) (runs : List ℕ) (naming : Naming) (ps qs : List ColumnPath) → Alike ps qs → event_content_of events runs naming ps ≡ event_content_of events runs naming qs
+unfolding event_content_of
+event_content_alike events runs naming ps qs alike = λ i. record {
+  events = events;
+  runs = runs;
+  names = names_alike naming ps qs alike i;
+  nodes = listed_alike ps qs alike i;
+  profiles = profiles_alike (period_of_column (periods_of events)) (columns_of (length events) runs) ps qs alike i;
+  contexts = contexts_alike (period_of_column (periods_of events)) (columns_of (length events) runs) ps qs alike i;
+}
 
 abbrev table_from : ℕ → ℕ → Naming → List Path → (ℕ → Path → Kind → ℕ) → ℕ → List ℕ
 table_from period columns naming ns v samples =
@@ -278,23 +323,34 @@ table_alike period columns naming ps qs alike =
     ∙ (λ i. table_from period columns naming (nodes_alike ps qs alike i) (λ column n kind. values_alike period ps qs alike column n kind i) (samples i))
     ∙ sym (table_is period columns naming qs)
 
--- the paths of a content have its content, and the table of the paths that it was made of
-pub content_again : (period columns : ℕ) (naming : Naming) (ps : List ColumnPath) → 0 < period → length (nodes ps) ≤ no_parent → All (λ p. 0 < length p.path) ps → All (λ p. p.column < columns) ps
-    → content_of period columns naming (paths_of (content_of period columns naming ps)) ≡ content_of period columns naming ps
-content_again period columns naming ps positive few some below =
-    content_alike period columns naming (paths_of (content_of period columns naming ps)) ps (record { same = λ t. counts_again period columns naming ps t positive few some below })
+-- each event's period is above 0, and so is each column's
+pub period_positive : (events : List EventPeriod) (place : ℕ) → AreEvents events → place < length events → 0 < period_at events place
+period_positive events place are inside =
+    let d : EventPeriod = record { event = Retired; period = 0 } in
+    let is : period_at events place ≡ (get_or events place d).period = get_or-map (λ (e : EventPeriod). e.period) events place d 0 inside in
+    let least = are.periods place d inside in
+    omega (arith, is, least)
 
-pub table_again : (period columns : ℕ) (naming : Naming) (ps : List ColumnPath) → 0 < period → length (nodes ps) ≤ no_parent → All (λ p. 0 < length p.path) ps → All (λ p. p.column < columns) ps
-    → top_down period columns naming (paths_of (content_of period columns naming ps)) ≡ top_down period columns naming ps
-table_again period columns naming ps positive few some below =
-    table_alike period columns naming (paths_of (content_of period columns naming ps)) ps (record { same = λ t. counts_again period columns naming ps t positive few some below })
+pub periods_positive : (events : List EventPeriod) → AreEvents events → (column : ℕ) → 0 < period_of_column (periods_of events) column
+periods_positive events are column =
+    let long = length-map events (λ (e : EventPeriod). e.period) in
+    let some = are.some in
+    let below = mod_below column (length (periods_of events)) (omega (arith, long, some)) in
+    period_positive events (column % length (periods_of events)) are (omega (arith, below, long))
 
 pub alike_from_permutation : (ps qs : List ColumnPath) → IsPermutation ps qs → Alike ps qs
 alike_from_permutation ps qs h = record { same = λ t. sym (sum_by-IsPermutation (λ p. one (t p)) ps qs h) }
 
 pub paths_alike : (period columns : ℕ) (naming : Naming) (ps : List ColumnPath) → 0 < period → length (nodes ps) ≤ no_parent → All (λ p. 0 < length p.path) ps → All (λ p. p.column < columns) ps → Alike (paths_of (content_of period columns naming ps)) ps
-paths_alike period columns naming ps positive few some below = record { same = λ t. counts_again period columns naming ps t positive few some below }
+unfolding paths_of content_of
+paths_alike period columns naming ps positive few some below = record { same = λ t. counts_again (λ column. period) columns ps t (λ column. positive) few some below }
 
-pub ruleset content_laws = (content_again, table_again, paths_alike)
+-- and so do those of a content of several events
+pub event_paths_alike : (events : List EventPeriod) (runs : List ℕ) (naming : Naming) (ps : List ColumnPath) → AreEvents events → length (nodes ps) ≤ no_parent → All (λ p. 0 < length p.path) ps
+    → All (λ p. p.column < columns_of (length events) runs) ps → Alike (event_paths_of (event_content_of events runs naming ps)) ps
+unfolding event_paths_of event_content_of
+event_paths_alike events runs naming ps are few some below = record {
+  same = λ t. counts_again (period_of_column (periods_of events)) (columns_of (length events) runs) ps t (periods_positive events are) few some below;
+}
 
 pub ruleset alike_laws = (nodes_alike, content_alike, table_alike, alike_from_permutation)

@@ -1,18 +1,16 @@
 -- The lists of a tree's values are the planes of its paths.
-use Rattle.std.proofs.Common.{◌≡◌, ℕ, ◌+◌, ◌<◌, ◌≤◌, ◌==◌, ◌&&◌, Bool, true, false, not, cond, List, [], ◌∷◌, ◌++◌, length, map, filter, refl, sym, ap, ◌∙◌, arith}
+use Rattle.std.proofs.Common.{◌≡◌, ℕ, ◌<◌, ◌≤◌, ◌==◌, ◌&&◌, Bool, true, false, not, cond, List, [], ◌∷◌, ◌++◌, length, map, filter, refl, sym, ap, ◌∙◌, arith}
 use Rattle.std.specs.Prelude.{◌≢◌}
 use Rattle.std.specs.List.{flat_map, range_with_len, enumerate_from}
 use Rattle.std.proofs.lemmas.Bool.{eq-eqb, ne_eqb}
 use Rattle.std.proofs.lemmas.List.Concat.{flat_map_single}
 use Rattle.scope_types.specs.Alike.{Alike}
 use Rattle.scope_types.specs.CallPaths.{ColumnPath}
-use Rattle.tree_types.specs.declared.content.Content.{Content}
 use Rattle.tree_types.specs.declared.content.Kind.{Kind}
 use Rattle.tree_types.specs.declared.content.Kind.TheVariants.{Exclusive, Frame, Inclusive}
 use Rattle.tree_types.specs.declared.content.ContextEntry.{ContextEntry}
 use Rattle.tree_types.specs.declared.node_values.NodeValue.{NodeValue}
-use Rattle.tree_types.specs.Database.{content_of, node_list}
-use Rattle.tree_types.specs.Naming.{Naming}
+use Rattle.tree_types.specs.Database.{node_list}
 use Rattle.tree_types.specs.Nodes.{nodes, no_parent}
 use Rattle.tree_types.specs.NodeValues.{kind_rank, node_value, values_for_column, values_at_node, nonzero, values_of}
 use Rattle.tree_types.specs.Paths.{Path}
@@ -20,13 +18,13 @@ use Rattle.tree_types.specs.PathsOf.{tree_paths}
 use Rattle.tree_types.specs.Planes.{node_values, other_than_zero, profile_entries, context_entries_of_kind, context_entries, profile_plane, context_plane}
 use Rattle.tree_types.specs.Tree.{CountedTree, node_path, paths_in}
 use Rattle.tree_types.specs.ValuePlanes.{in_profile, in_context, column_entries, kind_entries, node_entries, entries_by_column, entries_by_node}
-use Rattle.tree_types.specs.Values.{value, columns_below}
+use Rattle.tree_types.specs.Values.{columns_below}
 use Rattle.tree_types.proofs.PathSteps.{as_many_paths}
-use Rattle.tree_types.proofs.PathsAgain.{content_alike, nodes_alike}
+use Rattle.tree_types.proofs.PathsAgain.{contexts_alike, nodes_alike, profiles_alike}
 use Rattle.tree_types.proofs.Selecting.{filter_of_flat_map, filter_of_map, map_of_flat_map, map_of_map, flat_map_of_map, filters_swap, same_flat_map, none_of_flat_map, one_of_flat_map, same_map, numbered, by_index}
 use Rattle.tree_types.proofs.TreePaths.{tree_paths_is}
 
-module _ (period : ℕ) (t : CountedTree) where
+module _ (period : ℕ → ℕ) (t : CountedTree) where
   abbrev one : ℕ → ℕ → Kind → NodeValue
   one = node_value period t
 
@@ -126,19 +124,14 @@ module _ (period : ℕ) (t : CountedTree) where
         ∙ sym (by_index [] (context_entries period t.columns (paths_in t)) [] (tree_paths t.nodes))
         ∙ ap (map (context_entries period t.columns (paths_in t))) same
 
-module _ (period : ℕ) (t : CountedTree) (ps : List ColumnPath) (alike : Alike (paths_in t) ps) (is : t.nodes ≡ node_list ps) (few : length (nodes ps) ≤ no_parent) where
+module _ (period : ℕ → ℕ) (t : CountedTree) (ps : List ColumnPath) (alike : Alike (paths_in t) ps) (is : t.nodes ≡ node_list ps) (few : length (nodes ps) ≤ no_parent) where
   same_nodes : tree_paths t.nodes ≡ nodes (paths_in t)
   same_nodes = ap tree_paths is ∙ tree_paths_is ps few ∙ sym (nodes_alike (paths_in t) ps alike)
 
-  abbrev nameless : Naming
-  nameless = record { proc_name = λ id. []; file_name = λ table file. [] }
-
   pub profiles_are : entries_by_column (values_of period t) ≡ profile_plane period t.columns ps
-  unfolding content_of
-  profiles_are = by_column period t same_nodes ∙ ap (λ (c : Content). c.profiles) (content_alike period t.columns nameless (paths_in t) ps alike)
+  profiles_are = by_column period t same_nodes ∙ profiles_alike period t.columns (paths_in t) ps alike
 
   pub contexts_are : entries_by_node (values_of period t) ≡ context_plane period t.columns ps
-  unfolding content_of
-  contexts_are = by_node period t same_nodes ∙ ap (λ (c : Content). c.contexts) (content_alike period t.columns nameless (paths_in t) ps alike)
+  contexts_are = by_node period t same_nodes ∙ contexts_alike period t.columns (paths_in t) ps alike
 
 pub ruleset plane_laws = (profiles_are, contexts_are)

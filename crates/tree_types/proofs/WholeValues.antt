@@ -74,7 +74,7 @@ by_kind x y e h lt =
 abbrev Before : NodeValue → NodeValue → Type 0
 Before x y = value_order x y ≡ Less
 
-module _ (period : ℕ) (t : CountedTree) where
+module _ (period : ℕ → ℕ) (t : CountedTree) where
   abbrev one : ℕ → ℕ → Kind → NodeValue
   one = node_value period t
 
@@ -177,7 +177,7 @@ module _ (period : ℕ) (t : CountedTree) where
         and_false true = refl
         and_false false = refl
 
-    own_amount : sum_by amount (values_for_column period t node column) ≡ value period (paths_in t) column (node_path t.nodes node) kind
+    own_amount : sum_by amount (values_for_column period t node column) ≡ value (period column) (paths_in t) column (node_path t.nodes node) kind
     own_amount =
         let is : (k : Kind) → amount (one node column k) ≡ cond (kind_rank k == kind_rank kind) (one node column k).value 0 = λ k.
         ap (λ b. cond (b && (column == column && kind_rank k == kind_rank kind)) (one node column k).value 0) (eq-eqb node node refl) ∙ ap (λ b. cond (b && kind_rank k == kind_rank kind) (one node column k).value 0) (eq-eqb column column refl) in
@@ -205,7 +205,7 @@ module _ (period : ℕ) (t : CountedTree) where
         above : (a x : ℕ) → a ≢ x → a ≤ x → a + 1 ≤ x
         above a x apart le = omega arith
 
-    pub value_is : node < length t.nodes → column < t.columns → value_at (values_of period t).entries node column kind ≡ value period (paths_in t) column (node_path t.nodes node) kind
+    pub value_is : node < length t.nodes → column < t.columns → value_at (values_of period t).entries node column kind ≡ value (period column) (paths_in t) column (node_path t.nodes node) kind
     unfolding values_of
     value_is ltn lth =
         let at_node : (n : ℕ) → sum_by amount (values_at_node period t n) ≡ sum_by (λ h. sum_by amount (values_for_column period t n h)) (range_with_len 0 t.columns) = λ n.

@@ -1,9 +1,13 @@
 -- What a database holds of a list of call paths.
-use Rattle.std.specs.Prelude.{ℕ, List, map, [], ◌∷◌, if◌then◌else◌}
+use Rattle.std.specs.Prelude.{ℕ, List, length, map, [], ◌∷◌, slice_index_or, if◌then◌else◌}
 use Rattle.std.specs.Ordering.{is_eq}
 use Rattle.scope_types.specs.declared.scope.ProcId.{ProcId}
 use Rattle.scope_types.specs.CallPaths.{ColumnPath}
+use Rattle.scope_types.specs.Columns.{columns_of, period_of_column}
+use Rattle.scope_types.specs.Events.{periods_of}
+use Rattle.scope_types.specs.declared.event.EventPeriod.{EventPeriod}
 use Rattle.tree_types.specs.declared.content.Content.{Content}
+use Rattle.tree_types.specs.declared.content.EventContent.{EventContent}
 use Rattle.tree_types.specs.declared.content.Names.{Names}
 use Rattle.tree_types.specs.declared.content.Node.{Node}
 use Rattle.tree_types.specs.declared.content.FileName.{FileName}
@@ -30,8 +34,24 @@ content_of period columns naming paths = record {
   columns = columns;
   names = names_used naming paths;
   nodes = node_list paths;
-  profiles = profile_plane period columns paths;
-  contexts = context_plane period columns paths;
+  profiles = profile_plane (λ column. period) columns paths;
+  contexts = context_plane (λ column. period) columns paths;
+}
+
+-- the period of the event at this place
+abbrev pub period_at : List EventPeriod → ℕ → ℕ
+period_at events place = slice_index_or (periods_of events) place 0
+
+-- events with their periods, the harts of each run, names, paths: the whole content of several events, where each
+-- column has the period of its event
+unfoldable pub event_content_of : List EventPeriod → List ℕ → Naming → List ColumnPath → EventContent
+event_content_of events runs naming paths = record {
+  events = events;
+  runs = runs;
+  names = names_used naming paths;
+  nodes = node_list paths;
+  profiles = profile_plane (period_of_column (periods_of events)) (columns_of (length events) runs) paths;
+  contexts = context_plane (period_of_column (periods_of events)) (columns_of (length events) runs) paths;
 }
 
 -- the name of the first entry for a procedure, and for a file

@@ -43,29 +43,29 @@ value_at entries node column kind = sum_by (λ v. v.value)
 
 -- ---- the values of a tree
 
--- a value, by the paths that end in the tree
-abbrev pub node_value : ℕ → CountedTree → ℕ → ℕ → Kind → NodeValue
+-- a value, by the column's period and the paths that end in the tree
+abbrev pub node_value : (ℕ → ℕ) → CountedTree → ℕ → ℕ → Kind → NodeValue
 node_value period tree node column kind = record {
   node = node;
   column = column;
   kind = kind;
-  value = value period (paths_in tree) column (node_path tree.nodes node) kind;
+  value = value (period column) (paths_in tree) column (node_path tree.nodes node) kind;
 }
 
 -- the three values of a node for a column
-abbrev pub values_for_column : ℕ → CountedTree → ℕ → ℕ → List NodeValue
+abbrev pub values_for_column : (ℕ → ℕ) → CountedTree → ℕ → ℕ → List NodeValue
 values_for_column period tree node column = map (node_value period tree node column) kinds
 
 -- the values of a node, column by column
-abbrev pub values_at_node : ℕ → CountedTree → ℕ → List NodeValue
+abbrev pub values_at_node : (ℕ → ℕ) → CountedTree → ℕ → List NodeValue
 values_at_node period tree node = flat_map (values_for_column period tree node) (columns_below tree.columns)
 
 -- those that are not 0
 abbrev pub nonzero : List NodeValue → List NodeValue
 nonzero values = filter (λ v. not (v.value == 0)) values
 
--- the values of all nodes of a tree other than 0, by node, then column, then kind
-unfoldable pub values_of : ℕ → CountedTree → NodeValues
+-- the values of all nodes of a tree other than 0, by node, then column, then kind, with a period for each column
+unfoldable pub values_of : (ℕ → ℕ) → CountedTree → NodeValues
 values_of period tree = record {
   nodes = length tree.nodes;
   columns = tree.columns;

@@ -1,6 +1,6 @@
 use crate::planes::{ContextPlane, ProfilePlane};
 use prof_bytes::{Listed, Text};
-use scope_types::{ProcId, Scope};
+use scope_types::{EventPeriod, ProcId, Scope};
 
 /// The parent of a root, in place of a node's number.
 pub const NO_PARENT: u32 = 4_294_967_295;
@@ -66,6 +66,19 @@ pub struct Names {
 pub struct Content {
     pub period: u32,
     pub columns: u32,
+    pub names: Names,
+    pub nodes: Listed<Node>,
+    pub profiles: ProfilePlane,
+    pub contexts: ContextPlane,
+}
+
+/// What a database of several events holds: the events with their periods, the number of harts of each run, the names,
+/// the nodes in preorder, and the values other than 0 by column and by node. The columns are those of the harts of all
+/// runs one after another, and of each hart one for each event; a value is in the unit of its column's event.
+#[derive(Debug, Drop)]
+pub struct EventContent {
+    pub events: Listed<EventPeriod>,
+    pub runs: Listed<u32>,
     pub names: Names,
     pub nodes: Listed<Node>,
     pub profiles: ProfilePlane,

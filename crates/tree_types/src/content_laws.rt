@@ -14,8 +14,10 @@ ghost use Rattle.tree_types.specs.declared.content.Content.{Content};
 #[tactic(auto, using(crate::proofs::ContentParts::part_laws))]
 pub fn content_has_its_paths_values()
     ensures nodes { (c : Content) → IsOfPaths c → c.nodes ≡ node_list (paths_of c) }
-    ensures profiles { (c : Content) → IsOfPaths c → c.profiles ≡ profile_plane c.period c.columns (paths_of c) }
-    ensures contexts { (c : Content) → IsOfPaths c → c.contexts ≡ context_plane c.period c.columns (paths_of c) }
+    ensures profiles { (c : Content) → IsOfPaths c → c.profiles
+        ≡ profile_plane (λ column. c.period) c.columns (paths_of c) }
+    ensures contexts { (c : Content) → IsOfPaths c → c.contexts
+        ≡ context_plane (λ column. c.period) c.columns (paths_of c) }
     ensures columns { (c : Content) → IsOfPaths c → length c.profiles ≡ c.columns }
     ensures lists { (c : Content) → IsOfPaths c → length c.contexts ≡ length c.nodes }
 {}

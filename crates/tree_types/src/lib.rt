@@ -10,6 +10,7 @@ mod ascending;
 mod content;
 mod content_laws;
 mod counted_tree;
+mod event_laws;
 mod laws;
 mod lookup;
 mod node_values;
@@ -18,10 +19,16 @@ mod tree_laws;
 
 pub use ascending::ascend;
 pub use content::{
-    Content, ContextEntry, FileName, Kind, NO_PARENT, Names, Node, ProcName, ProfileEntry,
+    Content, ContextEntry, EventContent, FileName, Kind, NO_PARENT, Names, Node, ProcName,
+    ProfileEntry,
 };
 pub use content_laws::{content_has_its_paths_values, paths_make_a_profile, used_names_ascend};
 pub use counted_tree::{NodeCount, Tree};
+pub use event_laws::{
+    content_is_of_one_event, event_content_has_its_paths_values, event_content_holds_its_paths,
+    event_contents_have_parts, event_paths_are_paths, event_paths_make_a_profile,
+    one_event_is_the_whole,
+};
 pub use laws::{
     content_holds_its_paths, counts_decide, nodes_are_few, nodes_are_prefixes,
     order_does_not_matter, parents_stand_before, pieces_keep_the_paths, used_names_suffice,

@@ -56,23 +56,24 @@ pub fn parents_enclose()
         → ((node_at tree.nodes node).parent ≢ no_parent) × (first ≤ (node_at tree.nodes node).parent) }
 {}
 
-/// The values of a tree are in order, and each node, column and kind has its own.
+/// The values of a tree are in order, and each node, column and kind has its own, by the column's period.
 #[tactic(auto, using(crate::proofs::WholeValues::value_laws))]
 pub fn tree_has_values()
-    ensures order { (period : ℕ) (tree : CountedTree) → AreValues (values_of period tree) }
-    ensures each { (period : ℕ) (tree : CountedTree) (node column : ℕ) (kind : Kind)
+    ensures order { (period : ℕ → ℕ) (tree : CountedTree) → AreValues (values_of period tree) }
+    ensures each { (period : ℕ → ℕ) (tree : CountedTree) (node column : ℕ) (kind : Kind)
         → node < length tree.nodes → column < tree.columns
         → value_at (values_of period tree).entries node column kind
-        ≡ value period (paths_in tree) column (node_path tree.nodes node) kind }
+        ≡ value (period column) (paths_in tree) column (node_path tree.nodes node) kind }
 {}
 
-/// The lists of a tree's values are the planes of its paths, and of all lists with the same paths equally often.
+/// The lists of a tree's values are the planes of its paths, and of all lists with the same paths equally often, with
+/// the same period for each column.
 #[tactic(auto, using(crate::proofs::ValuePlanes::plane_laws))]
 pub fn values_make_planes()
-    ensures profiles { (period : ℕ) (tree : CountedTree) (ps : List ColumnPath) → Alike (paths_in tree) ps
+    ensures profiles { (period : ℕ → ℕ) (tree : CountedTree) (ps : List ColumnPath) → Alike (paths_in tree) ps
         → tree.nodes ≡ node_list ps → length (nodes ps) ≤ no_parent
         → entries_by_column (values_of period tree) ≡ profile_plane period tree.columns ps }
-    ensures contexts { (period : ℕ) (tree : CountedTree) (ps : List ColumnPath) → Alike (paths_in tree) ps
+    ensures contexts { (period : ℕ → ℕ) (tree : CountedTree) (ps : List ColumnPath) → Alike (paths_in tree) ps
         → tree.nodes ≡ node_list ps → length (nodes ps) ≤ no_parent
         → entries_by_node (values_of period tree) ≡ context_plane period tree.columns ps }
 {}
