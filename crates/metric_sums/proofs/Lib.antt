@@ -1,5 +1,6 @@
 mod Counting
 mod Emitted
 mod Lasts
+mod Periods
 mod Shares
 mod Stepping

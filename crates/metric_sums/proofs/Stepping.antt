@@ -64,7 +64,7 @@ in_order a b less = elim (cases_lt b.node a.node) [
   | inr ge ↦ ge
 ]
 
-module _ (period : ℕ) (t : CountedTree) (tree : IsTree t) (few : counts_in t.counts ≤ most_samples) where
+module _ (period : ℕ → ℕ) (t : CountedTree) (tree : IsTree t) (few : counts_in t.counts ≤ most_samples) where
   abbrev size : ℕ
   size = length t.nodes
 
@@ -228,18 +228,18 @@ module _ (period : ℕ) (t : CountedTree) (tree : IsTree t) (few : counts_in t.c
   flat_same f g a zero same = refl
   flat_same f g a (suc n) same = λ i. same a (omega arith) (omega arith) i ++ flat_same f g (a + 1) n (λ j le lt. same j (omega arith) (omega arith)) i
 
-  column_values : (i h : ℕ) → i < size → sum_values period i h (whole_sum t i h) ≡ values_for_column period t i h
+  column_values : (i h : ℕ) → i < size → sum_values (period h) i h (whole_sum t i h) ≡ values_for_column period t i h
   column_values i h lt =
       let own = counts_are_paths t i h tree lt in
-      λ k. record { node = i; column = h; kind = Exclusive; value = period * own k }
-      ∷ record { node = i; column = h; kind = Frame; value = period * (whole_sum t i h).frame }
-      ∷ record { node = i; column = h; kind = Inclusive; value = period * (whole_sum t i h).inclusive } ∷ []
+      λ k. record { node = i; column = h; kind = Exclusive; value = period h * own k }
+      ∷ record { node = i; column = h; kind = Frame; value = period h * (whole_sum t i h).frame }
+      ∷ record { node = i; column = h; kind = Inclusive; value = period h * (whole_sum t i h).inclusive } ∷ []
 
   pub node_values : (i : ℕ) (ancestors : List OpenNode) (sums : List Sum) → i < size → Summed i ancestors sums → values_of_sums period i sums 0 (length sums) ≡ nonzero (values_at_node period t i)
   node_values i ancestors sums lt s =
       ap (values_of_sums period i sums 0) s.long
-      ∙ ap nonzero (flat_same (λ h. sum_values period i h (get_or sums h no_paths)) (values_for_column period t i) 0 t.columns (λ h le inside.
-      ap (sum_values period i h) (s.each h no_paths (omega arith)) ∙ column_values i h lt))
+      ∙ ap nonzero (flat_same (λ h. sum_values (period h) i h (get_or sums h no_paths)) (values_for_column period t i) 0 t.columns (λ h le inside.
+      ap (sum_values (period h) i h) (s.each h no_paths (omega arith)) ∙ column_values i h lt))
 
   pub all_values : (i : ℕ) (ancestors : List OpenNode) (sums : List Sum) (old new : List NodeValue) → i < size → Summed i ancestors sums
       → reverse old ≡ nonzero (flat_map (values_at_node period t) (range_with_len (i + 1) (size - (i + 1))))

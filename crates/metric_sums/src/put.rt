@@ -1,7 +1,7 @@
 //! The values of a node, from the last to the first.
 ghost use Rattle.std.specs.Prelude.{◌≡◌, ◌<◌, ◌^◌, ◌++◌, ◌∷◌, [], length, OnOk, reverse};
 ghost use Rattle.tree_types.specs.NodeValues.{nonzero};
-ghost use Rattle.metric_sums.specs.private.Ancestors.{value_of_kind, values_of_sums, sum_values};
+ghost use Rattle.metric_sums.specs.private.Ancestors.{period_in, sum_values, value_of_kind, values_of_sums};
 ghost use Rattle.tree_types.specs.declared.content.Kind.TheVariants.{Exclusive, Frame, Inclusive};
 
 use crate::column_sums::Sum;
@@ -18,7 +18,7 @@ fn put_value(out: &mut Vec<NodeValue>, value: NodeValue) -> Result<(), Memory>
     Ok(())
 }
 
-/// Puts the value of a node for a column, in retired instructions: the period times the number of its paths.
+/// Puts the value of a node for a column: the column's period times the number of its paths.
 fn put_kind(
     out: &mut Vec<NodeValue>,
     period: u32,
@@ -58,21 +58,22 @@ fn put_sum(
     put_kind(out, period, node, column, Kind::Exclusive, sum.exclusive)
 }
 
-/// Puts the values of a node, column by column, the last one first.
+/// Puts the values of a node, column by column, the last one first. There is a period for each column.
 #[tactic(auto, using(crate::proofs::Emitted::one_column_more))]
 pub(crate) fn put_sums(
     out: &mut Vec<NodeValue>,
-    period: u32,
+    periods: &[u32],
     node: u32,
     sums: &[Sum],
 ) -> Result<(), Memory>
-    requires { length sums.now < 2 ^ 32 }
-    ensures { OnOk result
-        (reverse out.new.items ≡ values_of_sums period node sums.now 0 (length sums.now) ++ reverse out.old.items) }
+    requires few { length sums.now < 2 ^ 32 }
+    requires periods { length periods.now ≡ length sums.now }
+    ensures { OnOk result (reverse out.new.items
+        ≡ values_of_sums (period_in periods.now) node sums.now 0 (length sums.now) ++ reverse out.old.items) }
 {
     for done in 0..sums.len() {
         let column = sums.len() - 1 - done;
-        put_sum(out, period, node, column as u32, sums[column])?;
+        put_sum(out, periods[column], node, column as u32, sums[column])?;
     }
     Ok(())
 }

@@ -56,13 +56,17 @@ abbrev pub value_of_kind : ℕ → ℕ → ℕ → Kind → ℕ → NodeValue
 value_of_kind period node column kind paths =
     record { node = node; column = column; kind = kind; value = period * paths }
 
--- the three values of a node's sum
+-- the three values of a node's sum for a column
 abbrev pub sum_values : ℕ → ℕ → ℕ → Sum → List NodeValue
 sum_values period node column s = value_of_kind period node column Exclusive s.exclusive
     ∷ value_of_kind period node column Frame s.frame ∷ value_of_kind period node column Inclusive s.inclusive ∷ []
 
--- those of the columns from one on
-abbrev pub values_of_sums : ℕ → ℕ → List Sum → ℕ → ℕ → List NodeValue
+-- the period of a column in the list of the columns' periods
+abbrev pub period_in : List ℕ → ℕ → ℕ
+period_in periods column = slice_index_or periods column 0
+
+-- those of the columns from one on, each with its period
+abbrev pub values_of_sums : (ℕ → ℕ) → ℕ → List Sum → ℕ → ℕ → List NodeValue
 values_of_sums period node sums first count =
-    nonzero (flat_map (λ column. sum_values period node column (slice_index_or sums column no_paths))
+    nonzero (flat_map (λ column. sum_values (period column) node column (slice_index_or sums column no_paths))
     (range_with_len first count))

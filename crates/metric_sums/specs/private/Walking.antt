@@ -54,9 +54,9 @@ pub record IsOpen (t : CountedTree) (first : ℕ) (o : OpenNode) : Type 0 where
   pub each : (h : ℕ) (d : Sum) → h < t.columns → slice_index_or o.sums h d ≡ pending t first o.node h
 
 -- the nodes from `first` on are done: their parents before `first` are among the ancestors, and their values are
--- there
-pub record At (period : ℕ) (t : CountedTree) (first : ℕ) (ancestors : List OpenNode) (left : ℕ) (out : List NodeValue)
-    : Type 0 where
+-- there, by the columns' periods
+pub record At (period : ℕ → ℕ) (t : CountedTree) (first : ℕ) (ancestors : List OpenNode) (left : ℕ)
+    (out : List NodeValue) : Type 0 where
   pub parents : All (IsOpen t first) ancestors
   pub rise : AllPairs (λ a b. a.node < b.node) ancestors
   pub none : (node h : ℕ) → node < first → All (λ o. o.node ≢ node) ancestors → pending t first node h ≡ no_paths

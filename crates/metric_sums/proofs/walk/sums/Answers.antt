@@ -1,27 +1,26 @@
-use Rattle.std.proofs.Common.{◌-◌, length, ap, sym, subst, ◌∙◌, arith}
-use Rattle.tree_types.specs.NodeValues.{NodeValues, AreValues, value_at}
-use Rattle.tree_types.proofs.WholeValues.{are_values, value_is}
-use Rattle.metric_sums.proofs.Stepping.{begun, all_made}
+use Rattle.std.proofs.Common.{◌≡◌, ap, ◌∙◌, ℕ, ◌<◌, length}
+use Rattle.std.proofs.lemmas.Result.{IfOk-weaker}
+use Rattle.scope_types.specs.Columns.{period_of_column}
+use Rattle.tree_types.specs.NodeValues.{NodeValues, value_at, values_of}
+use Rattle.tree_types.specs.Tree.{node_path, paths_in}
+use Rattle.tree_types.specs.Values.{value}
+use Rattle.tree_types.specs.declared.content.Kind.{Kind}
+use Rattle.tree_types.proofs.WholeValues.{value_is}
+use Rattle.metric_sums.specs.private.Ancestors.{period_in}
+use Rattle.metric_sums.proofs.Periods.{as_many, values_priced}
 use Rattle.metric_sums.proofs.walk.sums.Goals as goal
 
-pub loop-done-init : goal.loop-done-init
-loop-done-init c =
-    let size = ap length c.nodes-nodes.ensures.nodes in
-    begun c.args.period c.args.tree.now c.counts.ensures.tree c.requires (length c.nodes-nodes.result.now - 0) (length c.counts.result.now) c.new.result.items c.new-3.result.items
-    (omega (arith, size)) (ap length c.counts.ensures.counts) c.new.ensures.items c.new-3.ensures.items
-
-pub of-requires : goal.of-requires
-of-requires c =
-    let made = all_made c.args.period c.args.tree.now c.counts.ensures.tree c.requires (length c.nodes-nodes.result.now) c.loop-done.done c.columns.result c.loop-done.walk.left c.loop-done.walk.ancestors.items c.loop-done.walk.out.items c.turned.result.items
-    (ap length c.nodes-nodes.ensures.nodes) (omega arith) c.loop-done.invariant c.columns.ensures.columns c.turned.ensures in
-    subst AreValues made (are_values c.args.period c.args.tree.now)
+pub walked-requires-clause-periods : goal.walked-requires-clause-periods
+walked-requires-clause-periods c = ap length c.as_slice.ensures.value ∙ as_many c.args.periods.now c.in_ok-all.all.items c.columns.result c.args.tree.now.columns c.in_ok-all.ensures c.columns.ensures.columns
 
 pub returns-clause-values : goal.returns-clause-values
 returns-clause-values c =
-    c.of.ensures
-    ∙ sym (all_made c.args.period c.args.tree.now c.counts.ensures.tree c.requires (length c.nodes-nodes.result.now) c.loop-done.done c.columns.result c.loop-done.walk.left c.loop-done.walk.ancestors.items c.loop-done.walk.out.items c.turned.result.items
-    (ap length c.nodes-nodes.ensures.nodes) (omega arith) c.loop-done.invariant c.columns.ensures.columns c.turned.ensures)
+    IfOk-weaker c.walked.result (λ (v : NodeValues). v ≡ values_of (period_in c.as_slice.result.now) c.args.tree.now) (λ v. v ≡ values_of (period_of_column c.args.periods.now) c.args.tree.now)
+    (λ v e. e ∙ values_priced c.args.periods.now c.as_slice.result.now c.columns.result c.args.tree.now c.columns.ensures.columns (c.as_slice.ensures.value ∙ c.in_ok-all.ensures)) c.walked.ensures
 
 pub returns-clause-each : goal.returns-clause-each
-returns-clause-each c node column kind ltn lth =
-    ap (λ (v : NodeValues). value_at v.entries node column kind) (returns-clause-values c) ∙ value_is c.args.period c.args.tree.now node column kind ltn lth
+returns-clause-each c =
+    IfOk-weaker c.walked.result (λ (v : NodeValues). v ≡ values_of (period_of_column c.args.periods.now) c.args.tree.now)
+    (λ v. (node column : ℕ) (kind : Kind) → node < length c.args.tree.now.nodes → column < c.args.tree.now.columns
+    → value_at v.entries node column kind ≡ value (period_of_column c.args.periods.now column) (paths_in c.args.tree.now) column (node_path c.args.tree.now.nodes node) kind)
+    (λ v e node column kind ltn lth. ap (λ (v : NodeValues). value_at v.entries node column kind) e ∙ value_is (period_of_column c.args.periods.now) c.args.tree.now node column kind ltn lth) (returns-clause-values c)

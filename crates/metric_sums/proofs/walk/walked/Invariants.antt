@@ -1,6 +1,7 @@
 use Rattle.std.proofs.Common.{◌-◌}
+use Rattle.metric_sums.specs.private.Ancestors.{period_in}
 use Rattle.metric_sums.specs.private.Walking.{At}
-use Rattle.metric_sums.proofs.walk.sums.Given as goal
+use Rattle.metric_sums.proofs.walk.walked.Given as goal
 
 abbrev pub invariant-loop-done : goal.invariant-loop-done
-invariant-loop-done l = At l.period l.tree (l.nodes - l.done) l.walk.ancestors.items l.walk.left l.walk.out.items
+invariant-loop-done l = At (period_in l.periods) l.tree (l.nodes - l.done) l.walk.ancestors.items l.walk.left l.walk.out.items
