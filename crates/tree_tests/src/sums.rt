@@ -1,5 +1,5 @@
 //! The values of a tree of six nodes and two columns.
-ghost use Rattle.std.specs.Prelude.{◌≡◌, ◌≤◌, length, IfOk};
+ghost use Rattle.std.specs.Prelude.{◌≡◌, ◌<◌, ◌≤◌, length, IfOk};
 ghost use Rattle.tree_types.specs.Tree.{counts_in};
 
 use metric_sums::sums;
@@ -55,14 +55,44 @@ static COUNTS: [NodeCount; 3] = [
     },
 ];
 
-/// The nodes' values by column, with a period of 10: exclusive, frame, inclusive.
-static VALUES: [[[u64; 3]; 2]; 6] = [
-    [[0, 0, 50], [0, 0, 10]],
-    [[0, 30, 50], [0, 0, 10]],
-    [[0, 0, 20], [0, 0, 10]],
-    [[0, 20, 20], [0, 10, 10]],
-    [[20, 20, 20], [10, 10, 10]],
-    [[30, 30, 30], [0, 0, 0]],
+/// A name, periods, and the nodes' values by column: exclusive, frame, inclusive. Each is a period times a count.
+static ROWS: [(&str, &[u32], [[[u64; 3]; 2]; 6]); 3] = [
+    (
+        "one period",
+        &[10],
+        [
+            [[0, 0, 50], [0, 0, 10]],
+            [[0, 30, 50], [0, 0, 10]],
+            [[0, 0, 20], [0, 0, 10]],
+            [[0, 20, 20], [0, 10, 10]],
+            [[20, 20, 20], [10, 10, 10]],
+            [[30, 30, 30], [0, 0, 0]],
+        ],
+    ),
+    (
+        "a period for each column",
+        &[10, 3],
+        [
+            [[0, 0, 50], [0, 0, 3]],
+            [[0, 30, 50], [0, 0, 3]],
+            [[0, 0, 20], [0, 0, 3]],
+            [[0, 20, 20], [0, 3, 3]],
+            [[20, 20, 20], [3, 3, 3]],
+            [[30, 30, 30], [0, 0, 0]],
+        ],
+    ),
+    (
+        "the greatest period",
+        &[1, 4_294_967_295],
+        [
+            [[0, 0, 5], [0, 0, 4_294_967_295]],
+            [[0, 3, 5], [0, 0, 4_294_967_295]],
+            [[0, 0, 2], [0, 0, 4_294_967_295]],
+            [[0, 2, 2], [0, 4_294_967_295, 4_294_967_295]],
+            [[2, 2, 2], [4_294_967_295, 4_294_967_295, 4_294_967_295]],
+            [[3, 3, 3], [0, 0, 0]],
+        ],
+    ),
 ];
 
 /// The tree of these nodes and counts.
@@ -78,14 +108,23 @@ pub(crate) fn six_nodes(alloc: Global) -> Result<Tree, Memory>
     Ok(Tree::of(2, nodes, counts))
 }
 
-/// The values of the tree, with a period of 10.
+/// The values of the tree, with these periods.
 #[tactic(auto, unfolding(tree_types::specs::NodeValues::values_of))]
-pub(crate) fn six_values(alloc: Global) -> Result<Values, Memory>
+fn values_with(alloc: Global, periods: &[u32]) -> Result<Values, Memory>
+    requires { 0 < length periods.now }
     ensures nodes { IfOk result (λ values. values.nodes ≡ 6) }
     ensures columns { IfOk result (λ values. values.columns ≡ 2) }
 {
     let tree = six_nodes(alloc)?;
-    sums(alloc, &tree, 10)
+    sums(alloc, &tree, periods)
+}
+
+/// The values of the tree, with a period of 10.
+pub(crate) fn six_values(alloc: Global) -> Result<Values, Memory>
+    ensures nodes { IfOk result (λ values. values.nodes ≡ 6) }
+    ensures columns { IfOk result (λ values. values.columns ≡ 2) }
+{
+    values_with(alloc, &[10])
 }
 
 /// The values of a node for a column.
@@ -100,10 +139,10 @@ fn values_at(values: &Values, node: u32, column: u32) -> Option<[u64; 3]> {
     ])
 }
 
-/// The first node and column with other values than the table's.
-fn other_values(values: &Values) -> Option<(u32, u32)> {
+/// The first node and column with other values than these.
+fn other_values(values: &Values, wanted: &[[[u64; 3]; 2]; 6]) -> Option<(u32, u32)> {
     for node in 0..6u32 {
-        let row = VALUES[node as usize];
+        let row = wanted[node as usize];
         if values_at(values, node, 0) != Some(row[0]) {
             return Some((node, 0));
         }
@@ -114,24 +153,29 @@ fn other_values(values: &Values) -> Option<(u32, u32)> {
     None
 }
 
+/// The first row whose tree has other values, or not 20 other than 0.
+fn other_row(alloc: Global) -> Result<Option<&'static str>, Memory> {
+    for (name, periods, wanted) in &ROWS {
+        if periods.is_empty() {
+            return Ok(Some(*name));
+        }
+        let values = values_with(alloc, periods)?;
+        if other_values(&values, wanted).is_some() || values.entries().len() != 20 {
+            return Ok(Some(*name));
+        }
+    }
+    Ok(None)
+}
+
 /// The columns of the tree, and the paths of column 1 that end at node 4 and at node 3.
 fn columns_and_paths(alloc: Global) -> Result<(u32, u64, u64), Memory> {
     let tree = six_nodes(alloc)?;
     Ok((tree.columns(), tree.count(4, 1), tree.count(3, 1)))
 }
 
-/// The first node and column with other values, and how many values there are other than 0.
-fn other_values_of_the_tree(alloc: Global) -> Result<(Option<(u32, u32)>, usize), Memory> {
-    let values = six_values(alloc)?;
-    Ok((other_values(&values), values.entries().len()))
-}
-
 #[test]
 fn values_of_a_tree(rt: HostRuntime) -> Result<(), Fail> {
-    let found = (
-        columns_and_paths(rt.alloc())?,
-        other_values_of_the_tree(rt.alloc())?,
-    );
-    assert_eq!(rt; found, ((2, 1, 0), (None, 20)));
+    let found = (columns_and_paths(rt.alloc())?, other_row(rt.alloc())?);
+    assert_eq!(rt; found, ((2, 1, 0), None));
     Ok(())
 }
