@@ -162,6 +162,17 @@ impl<'a> ProgramMemory<'a> {
         }
         access::fetch(&self.paged, &self.code, pc)
     }
+
+    /// The word at pc as `fetch` gives it. What is kept for the next fetch does not change.
+    pub fn peek(&self, pc: u32) -> Option<u32>
+        ensures { result ≡ fetched_at self.now pc }
+    {
+        if pc % 4 > 0 {
+            return None;
+        }
+        let region = self.paged.region(pc)?;
+        access::fetch(&self.paged, &region, pc)
+    }
 }
 
 impl<'a> Look for ProgramMemory<'a> {
