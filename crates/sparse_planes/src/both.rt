@@ -55,7 +55,8 @@ pub fn both_planes<R: Threads + Sync>(
         (both.0 ≡ entries_by_column values.now) × (both.1 ≡ entries_by_node values.now)) }
     ensures lengths { IfOk result (λ both. (length both.0 ≡ values.now.columns) × (length both.1 ≡ values.now.nodes)) }
     ensures paths { (period : ℕ → ℕ) (tree : CountedTree) (ps : List ColumnPath)
-        → values.now ≡ values_of period tree → IsTree tree → Alike (paths_in tree) ps → tree.nodes ≡ node_list ps → length (nodes ps) ≤ no_parent
+        → values.now ≡ values_of period tree → IsTree tree → Alike (paths_in tree) ps
+        → tree.nodes ≡ node_list ps → length (nodes ps) ≤ no_parent
         → IfOk result (λ both. (both.0 ≡ profile_plane period tree.columns ps)
         × (both.1 ≡ context_plane period tree.columns ps)) }
 {

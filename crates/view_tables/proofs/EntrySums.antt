@@ -44,30 +44,30 @@ zeros [] = refl
 zeros (x ∷ xs) = sum_by-cons (λ (x : ℕ). 0) x xs ∙ ap (λ (k : ℕ). 0 + k) (zeros xs)
 
 module _ (period columns : ℕ) (ps : List ColumnPath) (n : Path) where
-  of_kind : (kind of : Kind) → sum_by (amount kind) (context_entries_of_kind period columns ps n of) ≡ sum_by (λ h. amount kind (context_entry of h (value period ps h n of))) (columns_below columns)
+  of_kind : (kind of : Kind) → sum_by (amount kind) (context_entries_of_kind (λ column. period) columns ps n of) ≡ sum_by (λ h. amount kind (context_entry of h (value period ps h n of))) (columns_below columns)
   of_kind kind of =
       sum_by-filter (amount kind) (λ e. not (e.value == 0)) (no_amount kind) (map (λ h. context_entry of h (value period ps h n of)) (columns_below columns))
       ∙ sum_by-map (amount kind) (λ h. context_entry of h (value period ps h n of)) (columns_below columns)
 
-  parts : (kind : Kind) → sum_by (amount kind) (context_entries period columns ps n) ≡ sum_by (λ of. sum_by (amount kind) (context_entries_of_kind period columns ps n of)) kinds
+  parts : (kind : Kind) → sum_by (amount kind) (context_entries (λ column. period) columns ps n) ≡ sum_by (λ of. sum_by (amount kind) (context_entries_of_kind (λ column. period) columns ps n of)) kinds
   unfolding context_entries
-  parts kind = sum_by-flat_map (amount kind) (context_entries_of_kind period columns ps n) kinds
+  parts kind = sum_by-flat_map (amount kind) (context_entries_of_kind (λ column. period) columns ps n) kinds
 
-  pub entry_sum_is : (kind : Kind) → sum_by (amount kind) (context_entries period columns ps n) ≡ over_columns period columns ps n kind
+  pub entry_sum_is : (kind : Kind) → sum_by (amount kind) (context_entries (λ column. period) columns ps n) ≡ over_columns period columns ps n kind
   entry_sum_is Exclusive =
-      let a : sum_by (amount Exclusive) (context_entries_of_kind period columns ps n Exclusive) ≡ over_columns period columns ps n Exclusive = of_kind Exclusive Exclusive in
-      let b : sum_by (amount Exclusive) (context_entries_of_kind period columns ps n Frame) ≡ 0 = of_kind Exclusive Frame ∙ zeros (columns_below columns) in
-      let c : sum_by (amount Exclusive) (context_entries_of_kind period columns ps n Inclusive) ≡ 0 = of_kind Exclusive Inclusive ∙ zeros (columns_below columns) in
+      let a : sum_by (amount Exclusive) (context_entries_of_kind (λ column. period) columns ps n Exclusive) ≡ over_columns period columns ps n Exclusive = of_kind Exclusive Exclusive in
+      let b : sum_by (amount Exclusive) (context_entries_of_kind (λ column. period) columns ps n Frame) ≡ 0 = of_kind Exclusive Frame ∙ zeros (columns_below columns) in
+      let c : sum_by (amount Exclusive) (context_entries_of_kind (λ column. period) columns ps n Inclusive) ≡ 0 = of_kind Exclusive Inclusive ∙ zeros (columns_below columns) in
       parts Exclusive ∙ (λ i. ((0 + a i) + b i) + c i) ∙ omega arith
   entry_sum_is Frame =
-      let a : sum_by (amount Frame) (context_entries_of_kind period columns ps n Exclusive) ≡ 0 = of_kind Frame Exclusive ∙ zeros (columns_below columns) in
-      let b : sum_by (amount Frame) (context_entries_of_kind period columns ps n Frame) ≡ over_columns period columns ps n Frame = of_kind Frame Frame in
-      let c : sum_by (amount Frame) (context_entries_of_kind period columns ps n Inclusive) ≡ 0 = of_kind Frame Inclusive ∙ zeros (columns_below columns) in
+      let a : sum_by (amount Frame) (context_entries_of_kind (λ column. period) columns ps n Exclusive) ≡ 0 = of_kind Frame Exclusive ∙ zeros (columns_below columns) in
+      let b : sum_by (amount Frame) (context_entries_of_kind (λ column. period) columns ps n Frame) ≡ over_columns period columns ps n Frame = of_kind Frame Frame in
+      let c : sum_by (amount Frame) (context_entries_of_kind (λ column. period) columns ps n Inclusive) ≡ 0 = of_kind Frame Inclusive ∙ zeros (columns_below columns) in
       parts Frame ∙ (λ i. ((0 + a i) + b i) + c i) ∙ omega arith
   entry_sum_is Inclusive =
-      let a : sum_by (amount Inclusive) (context_entries_of_kind period columns ps n Exclusive) ≡ 0 = of_kind Inclusive Exclusive ∙ zeros (columns_below columns) in
-      let b : sum_by (amount Inclusive) (context_entries_of_kind period columns ps n Frame) ≡ 0 = of_kind Inclusive Frame ∙ zeros (columns_below columns) in
-      let c : sum_by (amount Inclusive) (context_entries_of_kind period columns ps n Inclusive) ≡ over_columns period columns ps n Inclusive = of_kind Inclusive Inclusive in
+      let a : sum_by (amount Inclusive) (context_entries_of_kind (λ column. period) columns ps n Exclusive) ≡ 0 = of_kind Inclusive Exclusive ∙ zeros (columns_below columns) in
+      let b : sum_by (amount Inclusive) (context_entries_of_kind (λ column. period) columns ps n Frame) ≡ 0 = of_kind Inclusive Frame ∙ zeros (columns_below columns) in
+      let c : sum_by (amount Inclusive) (context_entries_of_kind (λ column. period) columns ps n Inclusive) ≡ over_columns period columns ps n Inclusive = of_kind Inclusive Inclusive in
       parts Inclusive ∙ (λ i. ((0 + a i) + b i) + c i) ∙ omega arith
 
 -- ---- the nodes of a content
@@ -78,10 +78,10 @@ as_many_nodes c profile = own_node_count c profile.own
 pub as_many_lists : (c : Content) → IsProfile c → length c.contexts ≡ length c.nodes
 as_many_lists c profile = own_list_count c profile.own
 
-pub entries_at : (c : Content) (number : ℕ) → IsProfile c → number < length c.nodes → get_or c.contexts number [] ≡ context_entries c.period c.columns (paths_of c) (path_of_node c number)
+pub entries_at : (c : Content) (number : ℕ) → IsProfile c → number < length c.nodes → get_or c.contexts number [] ≡ context_entries (λ column. c.period) c.columns (paths_of c) (path_of_node c number)
 entries_at c number profile lt =
     ap (λ (lists : List (List ContextEntry)). get_or lists number []) (own_contexts c profile.own)
-    ∙ get_or-map (context_entries c.period c.columns (paths_of c)) (nodes (paths_of c)) number [] [] (omega (arith, lt, as_many_nodes c profile))
+    ∙ get_or-map (context_entries (λ column. c.period) c.columns (paths_of c)) (nodes (paths_of c)) number [] [] (omega (arith, lt, as_many_nodes c profile))
 
 pub value_is : (c : Content) (number : ℕ) (kind : Kind) → IsProfile c → number < length c.nodes
     → sum_by (amount kind) (get_or c.contexts number []) ≡ over_columns c.period c.columns (paths_of c) (path_of_node c number) kind

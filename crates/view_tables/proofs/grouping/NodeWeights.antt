@@ -10,7 +10,7 @@ use Rattle.tree_types.specs.declared.content.Content.{Content}
 use Rattle.tree_types.specs.declared.content.ContextEntry.{ContextEntry}
 use Rattle.tree_types.specs.declared.content.Kind.TheVariants.{Exclusive}
 use Rattle.tree_types.specs.declared.content.Node.{Node}
-use Rattle.tree_types.specs.Database.{naming_in}
+use Rattle.tree_types.specs.Database.{content_of, naming_in}
 use Rattle.tree_types.specs.Nodes.{nodes}
 use Rattle.tree_types.specs.OfContent.{IsProfile}
 use Rattle.tree_types.specs.Paths.{Path}
@@ -76,11 +76,12 @@ ups_is c number profile =
 
 counts_are : (c : Content) (q : ColumnPath → Bool) → IsProfile c
     → count_by q (paths_of c) ≡ sum_by (λ h. sum_by (λ m. one (q (record { column = h; path = m })) * count_below ends_here (paths_of c) h m) (nodes (paths_of c))) (columns_below c.columns)
+unfolding content_of paths_of
 counts_are c q profile =
     let many = as_many_nodes c profile in
     let few = profile.nodes in
     ap (λ (x : Content). count_by q (paths_of x)) (sym profile.own)
-    ∙ from_all c.period (paths_of c) profile.period q c.columns (naming_in c.names) (omega (arith, many, few))
+    ∙ from_all (λ column. c.period) (paths_of c) (λ column. profile.period) q c.columns (omega (arith, many, few))
 
 -- the values of all samples whose paths pass
 pub costs_weigh : (c : Content) (costs : List ℕ) (q : Path → Bool) → IsProfile c → AreCosts c costs → length costs ≡ length c.nodes
