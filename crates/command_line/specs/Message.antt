@@ -7,13 +7,14 @@ use Rattle.dwarf_info.specs.declared.fault.InfoFault.{InfoFault}
 use Rattle.dwarf_info.specs.declared.fault.InfoFault.TheVariants as infos
 use Rattle.dwarf_inline.specs.declared.fault.StructureFault.{StructureFault}
 use Rattle.dwarf_inline.specs.declared.fault.StructureFault.TheVariants as structures
+use Rattle.scope_types.specs.Events.{event_name}
 use Rattle.scope_types.specs.Limits.{most_samples, most_frames_in_all, most_scopes_in_all}
 use Rattle.prof_devices.specs.Outside.{SinkState, Rose, Appends, AppendsPart}
 use Rattle.command_line.specs.declared.status.InputFault.{InputFault}
 use Rattle.command_line.specs.declared.status.InputFault.TheVariants.{TooLong, Schedule, Program, Frames, EhFrames}
 use Rattle.command_line.specs.declared.status.InputFault.TheVariants.{Entries, Lines, Structure}
 use Rattle.command_line.specs.declared.status.InputFault.TheVariants.{TooManySamples, TooManyFrames, TooManyScopes}
-use Rattle.command_line.specs.declared.status.InputFault.TheVariants.{Measurement, WrongProgram, Database}
+use Rattle.command_line.specs.declared.status.InputFault.TheVariants.{Measurement, WrongProgram, Database, NoEvent}
 use Rattle.command_line.specs.declared.status.Place.{Place}
 use Rattle.command_line.specs.declared.status.Place.TheVariants.{Read, Store, Print}
 use Rattle.command_line.specs.declared.status.Status.{Status}
@@ -81,6 +82,7 @@ fault_text (WrongProgram kept_length kept_entry found_length found_entry) =
     codes "measurement of another program: kept " ++ decimal kept_length ++ codes " " ++ decimal kept_entry
     ++ codes " found " ++ decimal found_length ++ codes " " ++ decimal found_entry
 fault_text (Database offset rule) = codes "database rule " ++ decimal rule ++ codes " at " ++ decimal offset
+fault_text (NoEvent event) = codes "no event " ++ event_name event
 
 -- ---- the lines
 

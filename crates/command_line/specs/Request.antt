@@ -1,6 +1,7 @@
 -- What a command line may ask for: a command with its numbers, and its files.
 use Rattle.std.specs.Prelude.{◌≡◌, ◌<◌, ◌≤◌, ℕ, List, [], ◌∷◌, map, Option}
 use Rattle.std.specs.Option.{option_copied}
+use Rattle.scope_types.specs.Events.{AreEvents}
 use Rattle.scope_types.specs.Limits.{most_workers}
 use Rattle.command_line.specs.declared.kind.FileKind.{FileKind}
 use Rattle.command_line.specs.declared.kind.FileKind.TheVariants as kinds
@@ -23,22 +24,22 @@ view_request r = record { command = r.command; reads = map view_want r.reads; st
 abbrev pub AreWorkers : ℕ → Type 0
 AreWorkers workers = (1 ≤ workers) × (workers ≤ most_workers)
 
--- a period is above 0, and the number of workers is within its bounds
+-- the events are those that a run may have, a period is above 0, and the number of workers is within its bounds
 abbrev pub IsCommand : Command → Type 0
-IsCommand (Profile period workers) = (0 < period) × AreWorkers workers
+IsCommand (Profile periods workers) = AreEvents periods × AreWorkers workers
 IsCommand (Run period) = 0 < period
 IsCommand (Prof workers) = AreWorkers workers
 IsCommand Struct = Unit {0}
-IsCommand (View table) = Unit {0}
+IsCommand (View table event) = Unit {0}
 IsCommand (Drill number workers) = AreWorkers workers
 
 -- the kinds of the files that a command reads, in their order
 abbrev pub kinds_read : Command → List FileKind
-kinds_read (Profile period workers) = kinds.Program ∷ kinds.Input ∷ kinds.Schedule ∷ []
+kinds_read (Profile periods workers) = kinds.Program ∷ kinds.Input ∷ kinds.Schedule ∷ []
 kinds_read (Run period) = kinds.Program ∷ kinds.Input ∷ kinds.Schedule ∷ []
 kinds_read (Prof workers) = kinds.Program ∷ kinds.Measurement ∷ []
 kinds_read Struct = kinds.Program ∷ []
-kinds_read (View table) = kinds.Database ∷ []
+kinds_read (View table event) = kinds.Database ∷ []
 kinds_read (Drill number workers) = []
 
 -- the numbers are within their bounds, and the files are of the command's kinds

@@ -1,9 +1,13 @@
 -- What the words of a command line ask for.
-use Rattle.std.specs.Prelude.{ℕ, nat_eq, nat_lt, Bool, true, ◌&&◌, if◌then◌else◌, List, [], ◌∷◌, ◌++◌, length, codes}
-use Rattle.std.specs.Prelude.{Option, Some, None, option_map}
-use Rattle.std.specs.List.{list_all}
+use Rattle.std.specs.Prelude.{ℕ, ◌+◌, ◌==◌, nat_eq, nat_lt, Bool, true, ◌&&◌, if◌then◌else◌, List, [], ◌∷◌, ◌++◌}
+use Rattle.std.specs.Prelude.{length, map, take, drop, position, codes, Option, Some, None, option_map}
+use Rattle.std.specs.List.{list_all, slice_split}
 use Rattle.std.specs.Cmp.Lexicographic.{pointwise}
 use Rattle.prof_bytes.specs.Numerals.{decimal_in}
+use Rattle.scope_types.specs.declared.event.Event.{Event}
+use Rattle.scope_types.specs.declared.event.Event.TheVariants.{Retired, Loads, Stores, Taken}
+use Rattle.scope_types.specs.declared.event.EventPeriod.{EventPeriod}
+use Rattle.scope_types.specs.Events.{event_name, event_number, retired_every}
 use Rattle.scope_types.specs.Limits.{most_workers}
 use Rattle.command_line.specs.declared.kind.FileKind.{FileKind}
 use Rattle.command_line.specs.declared.kind.FileKind.TheVariants as kinds
@@ -32,8 +36,8 @@ period_in word = decimal_in 1 most_period word
 abbrev pub workers_in : List ℕ → Option ℕ
 workers_in word = decimal_in 1 most_workers word
 
--- what is made of two numbers, where both are there
-abbrev pub of_both : {X : Type 0} → (ℕ → ℕ → X) → Option ℕ → Option ℕ → Option X
+-- what is made of two values, where both are there
+abbrev pub of_both : {A B X : Type 0} → (A → B → X) → Option A → Option B → Option X
 of_both make (Some first) (Some second) = Some (make first second)
 of_both make (Some first) None = None
 of_both make None second = None
@@ -50,6 +54,68 @@ may_be_file_name (Some word) = is_file_name word
 -- the word is this name
 abbrev pub is_word : List ℕ → List ℕ → Bool
 is_word word name = pointwise nat_eq word name
+
+-- ---- events
+
+-- the event of this name
+abbrev pub event_named : List ℕ → Option Event
+event_named word =
+    if is_word word (event_name Retired) then Some Retired
+    else if is_word word (event_name Loads) then Some Loads
+    else if is_word word (event_name Stores) then Some Stores
+    else if is_word word (event_name Taken) then Some Taken
+    else None
+
+-- an event with its period
+abbrev pub event_every : Event → ℕ → EventPeriod
+event_every event period = record { event = event; period = period }
+
+-- the event and the period of an item that is cut at its first colon, if it has one
+abbrev pub item_cut : List ℕ → Option ℕ → Option EventPeriod
+item_cut item None = None
+item_cut item (Some colon) =
+    of_both event_every (event_named (take colon item)) (period_in (drop (colon + 1) item))
+
+-- the event and the period of the item `EVENT:P`
+unfoldable pub item_in : List ℕ → Option EventPeriod
+item_in item = item_cut item (position (λ byte. byte == 58) item)
+
+-- the items of a list, which are between its commas
+abbrev pub items_of : List ℕ → List (List ℕ)
+items_of word = slice_split (λ byte. byte == 44) word
+
+-- all values, where each of them is there
+abbrev pub all_there : {X : Type 0} → List (Option X) → Option (List X)
+all_there [] = Some []
+all_there (None ∷ rest) = None
+all_there (Some x ∷ rest) = option_map (λ xs. x ∷ xs) (all_there rest)
+
+-- each event has a greater number than the one before it
+abbrev pub are_ascending : List EventPeriod → Bool
+are_ascending [] = true
+are_ascending (first ∷ []) = true
+are_ascending (first ∷ second ∷ rest) =
+    nat_lt (event_number first.event) (event_number second.event) && are_ascending (second ∷ rest)
+
+-- the same events, where they ascend
+abbrev pub if_ascending : Option (List EventPeriod) → Option (List EventPeriod)
+if_ascending None = None
+if_ascending (Some events) = if are_ascending events then Some events else None
+
+-- the events of a list `EVENT:P`, `EVENT:P,EVENT:P` and so on, in which events ascend
+unfoldable pub events_in : List ℕ → Option (List EventPeriod)
+events_in word = if_ascending (all_there (map item_in (items_of word)))
+
+-- the events of a word that may be a number, which is the period of retired instructions
+abbrev pub number_or_events : Option ℕ → Option (List EventPeriod) → Option (List EventPeriod)
+number_or_events (Some period) events = Some (retired_every period)
+number_or_events None events = events
+
+-- the events of PERIOD, a number or a list
+unfoldable pub periods_in : List ℕ → Option (List EventPeriod)
+periods_in word = number_or_events (period_in word) (events_in word)
+
+-- ---- files
 
 -- a file of this kind, whose name is the word
 abbrev pub wanted : FileKind → List ℕ → Wanted
@@ -68,7 +134,7 @@ asked (Some command) reads stores =
 -- `profile ELF INPUT SCHEDULE PERIOD WORKERS DB`
 abbrev pub profile_words : List (List ℕ) → Option Request
 profile_words (elf ∷ input ∷ schedule ∷ period ∷ workers ∷ database ∷ []) =
-    asked (of_both Profile (period_in period) (workers_in workers))
+    asked (of_both Profile (periods_in period) (workers_in workers))
     (wanted kinds.Program elf ∷ wanted kinds.Input input ∷ wanted kinds.Schedule schedule ∷ []) (Some database)
 profile_words words = None
 
@@ -99,10 +165,20 @@ table_named word =
     else if is_word word (codes "flat") then Some Flat
     else None
 
--- `view DB top`, `view DB callers` and `view DB flat`
+-- a table of the database's first event
+abbrev pub view_first : ViewTable → Command
+view_first table = View table None
+
+-- a table of this event
+abbrev pub view_event : ViewTable → Event → Command
+view_event table event = View table (Some event)
+
+-- `view DB TABLE` and `view DB TABLE EVENT`, with the tables `top`, `callers` and `flat`
 abbrev pub view_words : List (List ℕ) → Option Request
 view_words (database ∷ table ∷ []) =
-    asked (option_map View (table_named table)) (wanted kinds.Database database ∷ []) None
+    asked (option_map view_first (table_named table)) (wanted kinds.Database database ∷ []) None
+view_words (database ∷ table ∷ event ∷ []) =
+    asked (of_both view_event (table_named table) (event_named event)) (wanted kinds.Database database ∷ []) None
 view_words words = None
 
 -- the request of a drill, which has no files
@@ -119,7 +195,8 @@ drill_words words = None
 abbrev pub usage_text : List ℕ
 usage_text =
     codes "usage: hpc profile ELF INPUT SCHEDULE PERIOD WORKERS DB | run ELF INPUT SCHEDULE PERIOD MEASURE"
-    ++ codes " | prof ELF MEASURE WORKERS DB | struct ELF | view DB top|callers|flat | drill NUMBER WORKERS\n"
+    ++ codes " | prof ELF MEASURE WORKERS DB | struct ELF | view DB top|callers|flat [EVENT]"
+    ++ codes " | drill NUMBER WORKERS\n"
 
 -- what the words ask for. `None`: the command line is invalid
 abbrev pub request_of : List (List ℕ) → Option Request

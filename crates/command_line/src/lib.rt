@@ -5,6 +5,7 @@
 //! streams, and the bytes.
 #![tactic(auto)]
 
+mod events;
 mod kind;
 mod message;
 mod request;

@@ -1,5 +1,6 @@
 //! The one line of each answer.
 ghost use Rattle.std.specs.Prelude.{◌≡◌, Some, IfOk, string_bytes};
+ghost use Rattle.scope_types.specs.Events.{event_name};
 ghost use Rattle.command_line.specs.Kind.{row_of};
 ghost use Rattle.command_line.specs.Message.{fault_text, info_offset, info_text, device_text, rule_text};
 ghost use Rattle.command_line.specs.Message.{structure_offset, structure_text, line_of, PutsLine, Says, StaysOrMemory};
@@ -12,6 +13,7 @@ use dwarf_inline::StructureFault;
 use elf_image::ElfRule;
 use prof_bytes::Memory;
 use prof_devices::{Put, Sink};
+use scope_types::Event;
 use scope_types::limits::{MOST_FRAMES_IN_ALL, MOST_SAMPLES, MOST_SCOPES_IN_ALL};
 use std::alloc::Global;
 use std::fmt;
@@ -82,6 +84,18 @@ fn structure_offset(fault: StructureFault) -> u32
     }
 }
 
+/// The name of an event, as it is printed.
+fn event_name(event: Event) -> &'static str
+    ensures { result.now ≡ event_name event }
+{
+    match event {
+        Event::Retired => "retired",
+        Event::Loads => "loads",
+        Event::Stores => "stores",
+        Event::Taken => "taken",
+    }
+}
+
 impl fmt::Display for InputFault {
     ghost output = { λ fault. Some (fault_text fault) };
 
@@ -122,6 +136,10 @@ impl fmt::Display for InputFault {
             ),
             InputFault::Database { offset, rule } => {
                 write!(f, "database rule {rule} at {offset}")
+            }
+            InputFault::NoEvent { event } => {
+                let name = event_name(*event);
+                write!(f, "no event {name}")
             }
         }
     }

@@ -1,6 +1,7 @@
 //! The commands, and what is asked for of one.
 use crate::kind::Want;
 use prof_bytes::Listed;
+use scope_types::{Event, EventPeriod};
 
 /// The tables that `view` puts.
 #[derive(Clone, Copy, Debug, PartialEq, Eq)]
@@ -10,16 +11,30 @@ pub enum ViewTable {
     Flat,
 }
 
-/// A command with its numbers: the period in retired instructions, the number of workers that merge, and the number of a
-/// guest. Its files are in the request.
-#[derive(Clone, Copy, Debug, PartialEq, Eq)]
+/// A command with what its words say beside files: the events with their periods, the period in retired instructions,
+/// the number of workers that merge, the table with its event (none: the database's first), and the number of a guest.
+/// Its files are in the request.
+#[derive(Debug, Drop)]
 pub enum Command {
-    Profile { period: u32, workers: u32 },
-    Run { period: u32 },
-    Prof { workers: u32 },
+    Profile {
+        periods: Listed<EventPeriod>,
+        workers: u32,
+    },
+    Run {
+        period: u32,
+    },
+    Prof {
+        workers: u32,
+    },
     Struct,
-    View { table: ViewTable },
-    Drill { number: u32, workers: u32 },
+    View {
+        table: ViewTable,
+        event: Option<Event>,
+    },
+    Drill {
+        number: u32,
+        workers: u32,
+    },
 }
 
 /// A command, the files that it reads, in this order, and the name of the file that it stores, where it stores one.

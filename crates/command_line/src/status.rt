@@ -3,6 +3,7 @@ use dwarf_info::InfoFault;
 use dwarf_inline::StructureFault;
 use elf_image::ElfFault;
 use prof_bytes::Memory;
+use scope_types::Event;
 
 /// What is refused in the files, and where.
 #[derive(Clone, Copy, Debug, PartialEq, Eq)]
@@ -56,6 +57,10 @@ pub enum InputFault {
     Database {
         offset: u64,
         rule: u32,
+    },
+    /// The database has not the event that was asked for.
+    NoEvent {
+        event: Event,
     },
 }
 

@@ -6,31 +6,23 @@ ghost use Rattle.prof_bytes.specs.Numerals.{decimal_in};
 ghost use Rattle.command_line.specs.Kind.{kinds_of, view_want};
 ghost use Rattle.command_line.specs.Request.{AreWorkers, IsCommand, IsValid, kinds_read, view_request};
 ghost use Rattle.command_line.specs.Words.{wanted, asked, drill_words, is_file_name, may_be_file_name, most_number};
-ghost use Rattle.command_line.specs.Words.{of_both, period_in, prof_words, profile_words, request_of, run_words};
-ghost use Rattle.command_line.specs.Words.{struct_words, table_named, view_words, workers_in};
+ghost use Rattle.command_line.specs.Words.{event_named, of_both, period_in, periods_in, prof_words, profile_words};
+ghost use Rattle.command_line.specs.Words.{request_of, run_words, struct_words, table_named, view_event, view_first};
+ghost use Rattle.command_line.specs.Words.{view_words, workers_in};
 ghost use Rattle.command_line.specs.declared.kind.FileKind.TheVariants as kinds;
 ghost use Rattle.command_line.specs.declared.request.Command.TheVariants as commands;
 
+use crate::events::{event_named, period_in, periods_in};
 use crate::kind::{FileKind, Want};
 use crate::request::{Command, Request, ViewTable};
 use prof_bytes::{Listed, Memory, Text, decimal};
 use scope_types::limits::MOST_WORKERS;
 use std::alloc::Global;
 
-/// The largest period.
-const MOST_PERIOD: u32 = u32::MAX;
-
 /// The largest number of a guest.
 const MOST_NUMBER: u32 = u32::MAX;
 
 // ---- numbers and names
-
-fn period_in(word: &Text) -> Option<u32>
-    ensures number { result ≡ period_in word.now }
-    ensures range { IfSome result (λ n. 0 < n) }
-{
-    decimal(word.bytes(), 1, MOST_PERIOD)
-}
 
 fn workers_in(word: &Text) -> Option<u32>
     ensures number { result ≡ workers_in word.now }
@@ -104,14 +96,20 @@ fn asked<'a>(
 
 // ---- the words of each command
 
-fn profile_command(period: &Text, workers: &Text) -> Option<Command>
-    ensures exact { result ≡ of_both commands.Profile (period_in period.now) (workers_in workers.now) }
-    ensures numbers { IfSome result IsCommand }
-    ensures files { IfSome result (λ c. kinds_read c ≡ kinds.Program ∷ kinds.Input ∷ kinds.Schedule ∷ []) }
+fn profile_command(alloc: Global, period: &Text, workers: &Text) -> Result<Option<Command>, Memory>
+    ensures exact { IfOk result (λ command.
+        command ≡ of_both commands.Profile (periods_in period.now) (workers_in workers.now)) }
+    ensures numbers { IfOk result (λ command. IfSome command IsCommand) }
+    ensures files { IfOk result (λ command.
+        IfSome command (λ c. kinds_read c ≡ kinds.Program ∷ kinds.Input ∷ kinds.Schedule ∷ [])) }
 {
-    let period = period_in(period)?;
-    let workers = workers_in(workers)?;
-    Some(Command::Profile { period, workers })
+    let Some(periods) = periods_in(alloc, period.bytes())? else {
+        return Ok(None);
+    };
+    let Some(workers) = workers_in(workers) else {
+        return Ok(None);
+    };
+    Ok(Some(Command::Profile { periods, workers }))
 }
 
 fn read_profile<'a>(alloc: Global, words: &'a [Text]) -> Result<Option<Request<'a>>, Memory>
@@ -126,7 +124,7 @@ fn read_profile<'a>(alloc: Global, words: &'a [Text]) -> Result<Option<Request<'
         wanted(FileKind::Input, input),
         wanted(FileKind::Schedule, schedule),
     ];
-    let command = profile_command(period, workers);
+    let command = profile_command(alloc, period, workers)?;
     asked(alloc, command, &reads, Some(database.bytes()))
 }
 
@@ -135,7 +133,7 @@ fn run_command(period: &Text) -> Option<Command>
     ensures numbers { IfSome result IsCommand }
     ensures files { IfSome result (λ c. kinds_read c ≡ kinds.Program ∷ kinds.Input ∷ kinds.Schedule ∷ []) }
 {
-    let period = period_in(period)?;
+    let period = period_in(period.bytes())?;
     Some(Command::Run { period })
 }
 
@@ -206,24 +204,36 @@ fn table_named(name: &[u8]) -> Option<ViewTable>
     None
 }
 
-fn view_command(table: &Text) -> Option<Command>
-    ensures exact { result ≡ option_map commands.View (table_named table.now) }
+fn first_view(table: &Text) -> Option<Command>
+    ensures exact { result ≡ option_map view_first (table_named table.now) }
     ensures numbers { IfSome result IsCommand }
     ensures files { IfSome result (λ c. kinds_read c ≡ kinds.Database ∷ []) }
 {
     let table = table_named(table.bytes())?;
-    Some(Command::View { table })
+    Some(Command::View { table, event: None })
+}
+
+fn event_view(table: &Text, event: &Text) -> Option<Command>
+    ensures exact { result ≡ of_both view_event (table_named table.now) (event_named event.now) }
+    ensures numbers { IfSome result IsCommand }
+    ensures files { IfSome result (λ c. kinds_read c ≡ kinds.Database ∷ []) }
+{
+    let table = table_named(table.bytes())?;
+    let event = Some(event_named(event.bytes())?);
+    Some(Command::View { table, event })
 }
 
 fn read_view<'a>(alloc: Global, words: &'a [Text]) -> Result<Option<Request<'a>>, Memory>
     ensures exact { IfOk result (λ r. option_map view_request r ≡ view_words words.now) }
     ensures valid { IfOk result (λ r. IfSome r (λ q. IsValid (view_request q))) }
 {
-    let [database, table] = words else {
-        return Ok(None);
+    let (database, command) = match words {
+        [database, table] => (database, first_view(table)),
+        [database, table, event] => (database, event_view(table, event)),
+        _ => return Ok(None),
     };
     let reads = [wanted(FileKind::Database, database)];
-    asked(alloc, view_command(table), &reads, None)
+    asked(alloc, command, &reads, None)
 }
 
 fn drill_command(number: &Text, workers: &Text) -> Option<Command>
@@ -249,7 +259,8 @@ fn read_drill<'a>(alloc: Global, words: &'a [Text]) -> Result<Option<Request<'a>
 /// All commands with their words.
 pub const USAGE: &str =
     "usage: hpc profile ELF INPUT SCHEDULE PERIOD WORKERS DB | run ELF INPUT SCHEDULE PERIOD MEASURE \
-     | prof ELF MEASURE WORKERS DB | struct ELF | view DB top|callers|flat | drill NUMBER WORKERS\n";
+     | prof ELF MEASURE WORKERS DB | struct ELF | view DB top|callers|flat [EVENT] \
+     | drill NUMBER WORKERS\n";
 
 /// What the words ask for; `None` where the command line is invalid. The request's numbers are within their bounds, and
 /// its files are of the command's kinds.

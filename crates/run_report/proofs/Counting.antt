@@ -1,21 +1,24 @@
 -- The lines on a run whose samples were counted.
-use Rattle.std.proofs.Common.{◌≡◌, ℕ, ◌<◌, ◌==◌, List, ◌++◌, length, count_by, ap, ◌∙◌}
+use Rattle.std.proofs.Common.{◌≡◌, ℕ, ◌*◌, ◌/◌, ◌≤◌, ◌==◌, List, ◌++◌, length, ap, ◌∙◌, arith}
+use Rattle.std.proofs.Math.Nat.{mul-div_cancel}
+use Rattle.scope_types.specs.declared.event.EventPeriod.{EventPeriod}
 use Rattle.scope_types.specs.declared.frame.Counted.{Counted}
+use Rattle.scope_types.specs.Columns.{hart_of_column}
 use Rattle.scope_types.specs.Distinct.{ColumnRaw, distinct, samples_in}
 use Rattle.rv_run.specs.State.{MachineState}
-use Rattle.thread_cct.specs.Adding.{samples_of_column}
-use Rattle.run_report.specs.Report.{closed, hart_lines, run_text, samples_by_hart, total_line}
-use Rattle.run_report.specs.private.Counted.{counted_text}
+use Rattle.run_report.specs.Report.{closed, hart_lines, run_line, run_text, samples_by_hart}
+use Rattle.run_report.specs.private.Counted.{counted_text, hart_samples}
+use Rattle.run_report.proofs.Columns.{EachCounted, where_counts}
 use Rattle.run_report.proofs.HartLines.{lines_same}
 
--- what the counted paths' law says
-abbrev pub EachCounted : Type 0
-EachCounted = (harts hart : ℕ) (samples : List ColumnRaw) → hart < harts → samples_of_column (distinct harts samples) hart ≡ count_by (λ s. s.column == hart) samples
+pub counted_is : EachCounted → (events : List EventPeriod) (harts : ℕ) (final : MachineState) (ccts : List (List Counted)) (samples : List ColumnRaw) → ccts ≡ distinct (length ccts) samples → samples_in ccts ≡ length samples
+    → counted_text events harts ccts final ≡ run_text events harts final samples
+counted_is each events harts final ccts samples counts all =
+    let lines : hart_lines harts final (hart_samples (length events) ccts) ≡ hart_lines harts final (samples_by_hart (length events) samples) =
+    lines_same harts final (hart_samples (length events) ccts) (samples_by_hart (length events) samples) (λ hart own. where_counts each (λ column. hart_of_column (length events) column == hart) ccts samples counts all) in
+    (λ i. closed final.output ++ run_line events harts (all i) ++ hart_lines harts final (hart_samples (length events) ccts))
+    ∙ ap (λ (l : List ℕ). closed final.output ++ run_line events harts (length samples) ++ l) lines
 
-pub counted_is : EachCounted → (period harts : ℕ) (final : MachineState) (ccts : List (List Counted)) (samples : List ColumnRaw) → ccts ≡ distinct harts samples → length ccts ≡ harts → samples_in ccts ≡ length samples
-    → counted_text period ccts final ≡ run_text period harts final samples
-counted_is each period harts final ccts samples counts many all =
-    let lines : hart_lines harts final (samples_of_column ccts) ≡ hart_lines harts final (samples_by_hart samples) =
-    lines_same harts final (samples_of_column ccts) (samples_by_hart samples) (λ hart own. ap (λ (ts : List (List Counted)). samples_of_column ts hart) counts ∙ each harts hart samples own) in
-    (λ i. closed final.output ++ total_line (many i) period (all i) ++ hart_lines (many i) final (samples_of_column ccts))
-    ∙ ap (λ (l : List ℕ). closed final.output ++ total_line harts period (length samples) ++ l) lines
+-- the harts of columns
+pub harts_of : (columns harts events : ℕ) → 1 ≤ events → columns ≡ harts * events → columns / events ≡ harts
+harts_of columns harts events some are = ap (λ (n : ℕ). n / events) are ∙ mul-div_cancel harts (omega (arith, some))

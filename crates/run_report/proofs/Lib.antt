@@ -1,3 +1,5 @@
 pub mod HartLines
 pub mod Retired
+pub mod Columns
+pub mod Events
 pub mod Counting

@@ -4,8 +4,10 @@
 //! nowhere. Their layout is this program's own. Below stand the machine, the counted samples, and the bytes.
 #![tactic(auto)]
 
+mod counts;
 mod drill;
 mod lines;
 
+pub use counts::{all_samples, event_samples};
 pub use drill::{all_retired, drill_lines};
-pub use lines::{all_samples, run_lines};
+pub use lines::{put_event_line, run_lines};

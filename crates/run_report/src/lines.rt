@@ -1,14 +1,17 @@
 //! A run as text.
-ghost use Rattle.std.specs.Prelude.{◌≡◌, ◌<◌, ◌≤◌, ◌^◌, ◌++◌, ◌*◌, List, length, decimal, IfOk, OnOk};
+ghost use Rattle.std.specs.Prelude.{◌≡◌, ◌<◌, ◌≤◌, ◌^◌, ◌++◌, ◌*◌, List, length, codes, decimal, IfOk, OnOk};
 ghost use Rattle.scope_types.specs.Distinct.{ColumnRaw, distinct, samples_in};
+ghost use Rattle.scope_types.specs.Events.{AreEvents, event_name};
 ghost use Rattle.scope_types.specs.Limits.{most_samples};
-ghost use Rattle.thread_cct.specs.Adding.{samples_of_column};
-ghost use Rattle.run_report.specs.Report.{cause_text, closed, end_text, hart_line, hart_lines, run_text, total_line};
-ghost use Rattle.run_report.specs.private.Counted.{counted_text};
+ghost use Rattle.run_report.specs.Report.{cause_text, closed, end_text, event_line, hart_line, hart_lines, run_line};
+ghost use Rattle.run_report.specs.Report.{run_text, samples_line, total_line};
+ghost use Rattle.run_report.specs.private.Counted.{counted_text, hart_samples, named_line};
 
+use crate::counts::{all_samples, hart_samples};
 use prof_bytes::{Memory, Text, put_address, put_decimal, put_text};
 use rv_hart::Cause;
 use rv_run::{HartEnd, Machine};
+use scope_types::{Event, EventPeriod};
 use std::alloc::Global;
 use thread_cct::{Ccts, samples_are_counted};
 
@@ -70,7 +73,7 @@ fn put_output(out: &mut Vec<u8>, output: &[u8]) -> Result<(), Memory>
 }
 
 fn put_total_line(out: &mut Vec<u8>, harts: u32, period: u32, samples: u64) -> Result<(), Memory>
-    requires { samples ≤ 2 ^ 20 }
+    requires { samples ≤ most_samples }
     ensures { OnOk result (out.new.items ≡ out.old.items ++ total_line harts period samples) }
 {
     put_count(out, "harts ", u64::from(harts))?;
@@ -79,6 +82,31 @@ fn put_total_line(out: &mut Vec<u8>, harts: u32, period: u32, samples: u64) -> R
     put_count(out, " total ", u64::from(period) * samples)?;
     out.push(b'\n')?;
     Ok(())
+}
+
+fn put_samples_line(out: &mut Vec<u8>, harts: u32, samples: u64) -> Result<(), Memory>
+    ensures { OnOk result (out.new.items ≡ out.old.items ++ samples_line harts samples) }
+{
+    put_count(out, "harts ", u64::from(harts))?;
+    put_count(out, " samples ", samples)?;
+    out.push(b'\n')?;
+    Ok(())
+}
+
+/// The totals of a run.
+fn put_run_line(
+    out: &mut Vec<u8>,
+    periods: &[EventPeriod],
+    harts: u32,
+    samples: u64,
+) -> Result<(), Memory>
+    requires { samples ≤ most_samples }
+    ensures { OnOk result (out.new.items ≡ out.old.items ++ run_line periods.now harts samples) }
+{
+    match periods {
+        [one] if one.event.number() == 0 => put_total_line(out, harts, one.period, samples),
+        _ => put_samples_line(out, harts, samples),
+    }
 }
 
 fn put_hart_line(
@@ -101,54 +129,110 @@ fn put_hart_line(
 
 /// A line for each hart.
 #[tactic(auto, using(crate::proofs::HartLines::line_steps))]
-fn put_hart_lines(out: &mut Vec<u8>, ccts: &Ccts, machine: &Machine<'_>) -> Result<(), Memory>
-    requires { length ccts.now ≡ length machine.now.state.harts }
+fn put_hart_lines(
+    out: &mut Vec<u8>,
+    events: u32,
+    harts: u32,
+    ccts: &Ccts,
+    machine: &Machine<'_>,
+) -> Result<(), Memory>
+    requires events { 1 ≤ events }
+    requires harts { harts ≡ length machine.now.state.harts }
     ensures { OnOk result (out.new.items
-        ≡ out.old.items ++ hart_lines (length ccts.now) machine.now.state (samples_of_column ccts.now)) }
+        ≡ out.old.items ++ hart_lines harts machine.now.state (hart_samples events ccts.now)) }
 {
-    for hart in 0..ccts.columns() {
-        put_hart_line(out, hart, ccts.samples(hart), machine)?;
+    for hart in 0..harts {
+        put_hart_line(out, hart, hart_samples(ccts, events, hart), machine)?;
     }
     Ok(())
 }
 
-/// How many samples all harts have.
-pub fn all_samples(ccts: &Ccts) -> u64
-    ensures all { result ≡ samples_in ccts.now }
-    ensures few { result ≤ most_samples }
+/// How many events there are.
+#[tactic(auto, using(crate::proofs::Events::few_events))]
+fn count_of(periods: &[EventPeriod]) -> u32
+    requires { AreEvents periods.now }
+    ensures count { result ≡ length periods.now }
+    ensures some { 1 ≤ result }
 {
-    let mut samples: u64 = 0;
-    for hart in 0..ccts.columns() {
-        samples += ccts.samples(hart);
-    }
-    samples
+    periods.len() as u32
 }
 
 /// The lines on a run: its output, the totals, and a line for each hart.
-fn put_run(out: &mut Vec<u8>, period: u32, ccts: &Ccts, machine: &Machine<'_>) -> Result<(), Memory>
-    requires { length ccts.now ≡ length machine.now.state.harts }
+fn put_run(
+    out: &mut Vec<u8>,
+    periods: &[EventPeriod],
+    harts: u32,
+    ccts: &Ccts,
+    machine: &Machine<'_>,
+) -> Result<(), Memory>
+    requires events { AreEvents periods.now }
+    requires harts { harts ≡ length machine.now.state.harts }
     ensures { OnOk result (out.new.items
-        ≡ out.old.items ++ counted_text period ccts.now machine.now.state) }
+        ≡ out.old.items ++ counted_text periods.now harts ccts.now machine.now.state) }
 {
     put_output(out, machine.output())?;
-    put_total_line(out, ccts.columns(), period, all_samples(ccts))?;
-    put_hart_lines(out, ccts, machine)
+    put_run_line(out, periods, harts, all_samples(ccts))?;
+    put_hart_lines(out, count_of(periods), harts, ccts, machine)
 }
 
-/// The lines on a run, of which these are the counted samples, and at whose end the machine stands.
+/// The lines on a run of these events, of which these are the counted samples, and at whose end the machine stands.
 pub fn run_lines(
     alloc: Global,
-    period: u32,
+    periods: &[EventPeriod],
     ccts: &Ccts,
     machine: &Machine<'_>,
 ) -> Result<Text, Memory>
-    requires { length ccts.now ≡ length machine.now.state.harts }
+    requires events { AreEvents periods.now }
+    requires columns { length ccts.now ≡ length machine.now.state.harts * length periods.now }
     ensures { (samples : List ColumnRaw) → ccts.now ≡ distinct (length ccts.now) samples
         → samples_in ccts.now ≡ length samples
-        → IfOk result (λ text. text ≡ run_text period (length ccts.now) machine.now.state samples) }
+        → IfOk result (λ text. text
+        ≡ run_text periods.now (length machine.now.state.harts) machine.now.state samples) }
 {
     samples_are_counted();
+    let harts = ccts.columns() / count_of(periods);
     let mut lines = Vec::new(alloc);
-    put_run(&mut lines, period, ccts, machine)?;
+    put_run(&mut lines, periods, harts, ccts, machine)?;
     Ok(Text::from_vec(lines))
+}
+
+// ---- an event
+
+fn name_of(event: Event) -> &'static str
+    ensures { result.now ≡ event_name event }
+{
+    match event {
+        Event::Retired => "retired",
+        Event::Loads => "loads",
+        Event::Stores => "stores",
+        Event::Taken => "taken",
+    }
+}
+
+fn put_name(out: &mut Vec<u8>, name: &str) -> Result<(), Memory>
+    ensures { OnOk result (out.new.items ≡ out.old.items ++ codes "event " ++ name.now) }
+{
+    put_text(out, "event ")?;
+    put_text(out, name)
+}
+
+/// The line on an event of this name.
+fn put_named(out: &mut Vec<u8>, name: &str, every: u32, samples: u64) -> Result<(), Memory>
+    requires { samples ≤ most_samples }
+    ensures { OnOk result (out.new.items ≡ out.old.items ++ named_line name.now every samples) }
+{
+    put_name(out, name)?;
+    put_count(out, " period ", u64::from(every))?;
+    put_count(out, " samples ", samples)?;
+    put_count(out, " total ", u64::from(every) * samples)?;
+    out.push(b'\n')?;
+    Ok(())
+}
+
+/// The line on an event of which so many samples were taken.
+pub fn put_event_line(out: &mut Vec<u8>, event: EventPeriod, samples: u64) -> Result<(), Memory>
+    requires { samples ≤ most_samples }
+    ensures { OnOk result (out.new.items ≡ out.old.items ++ event_line event samples) }
+{
+    put_named(out, name_of(event.event), event.period, samples)
 }
