@@ -1,6 +1,6 @@
 -- How a hart goes on among the words that are kept.
 use Rattle.std.proofs.Common.{◌≡◌, ◌≢◌, ℕ, Some, option_map, Result, Ok, Err, IfOk, refl, sym, subst, ◌∙◌}
-use Rattle.prof_bytes.specs.declared.fail.Memory.{Memory}
+use Rattle.rv_hart.specs.declared.counting.Halt.{Halt}
 use Rattle.rv_table.specs.declared.inst.Op.{Op}
 use Rattle.rv_table.specs.declared.inst.Op.TheVariants as ops
 use Rattle.rv_table.specs.declared.inst.Inst.{Inst}
@@ -19,7 +19,11 @@ going count old new how same differs goes = (λ e. absurd (differs (sym same ∙
 pub going-not : {op : Op} (count old new : ℕ) → op ≡ ops.Illegal → ContinuesBy op count old new continuation.Illegal
 going-not count old new same = (λ _. refl, λ other. absurd (other same))
 
-pub going-store : {op other : Op} (count old new : ℕ) (r : Result Continuation Memory) → op ≡ other → other ≢ ops.Illegal → IfOk r (λ how. (count : ℕ) → Continues count old new how) → IfOk r (ContinuesBy op count old new)
+pub going-some : {op other : Op} (count old new : ℕ) (r : Result Continuation Halt) → op ≡ other → other ≢ ops.Illegal → IfOk r (λ how. Continues count old new how) → IfOk r (ContinuesBy op count old new)
+going-some count old new (Ok how) same differs goes = (λ e. absurd (differs (sym same ∙ e)), λ _. goes)
+going-some count old new (Err e) same differs goes = tt
+
+pub going-store : {op other : Op} (count old new : ℕ) (r : Result Continuation Halt) → op ≡ other → other ≢ ops.Illegal → IfOk r (λ how. (count : ℕ) → Continues count old new how) → IfOk r (ContinuesBy op count old new)
 going-store count old new (Ok how) same differs goes = (λ e. absurd (differs (sym same ∙ e)), λ _. goes count)
 going-store count old new (Err e) same differs goes = tt
 

@@ -7,7 +7,6 @@ use Rattle.std.proofs.lemmas.List.{get_or_append_left, get_or-append-add, length
 use Rattle.prof_bytes.specs.Number.{number_in}
 use Rattle.elf_image.specs.declared.part.Segment.{Segment}
 use Rattle.elf_image.specs.declared.elf.TheConstants.{PF_W}
-use Rattle.elf_image.specs.Image.{in_segment}
 use Rattle.rv_table.specs.declared.inst.Inst.{Inst}
 use Rattle.rv_table.specs.declared.inst.Op.TheVariants as ops
 use Rattle.rv_table.specs.Table.{HasRegisters, decoded}

@@ -42,7 +42,7 @@ pub ran-next : (most left : ℕ) (s t u : State) (how : Stepped) → 0 < left �
 ran-next most left s t u how some few was is retires =
     subst (λ (n : ℕ). Ran n s u) (let e : most - left + 1 ≡ most - (left - 1) = omega arith in e) (ran-more (most - left) s t u how was is retires)
 
-after-twice : (m n : ℕ) (s : State) → after_steps (m + n) s ≡ after_steps n (after_steps m s)
+pub after-twice : (m n : ℕ) (s : State) → after_steps (m + n) s ≡ after_steps n (after_steps m s)
 unfolding after_steps
 after-twice m zero s = ap (λ (j : ℕ). after_steps j s) (let e : m + 0 ≡ m = omega arith in e)
 after-twice m (suc n) s =

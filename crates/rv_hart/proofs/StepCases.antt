@@ -1,5 +1,5 @@
 -- What holds of each way in which a step ends holds of each step.
-use Rattle.std.proofs.Common.{ℕ, ◌%◌, ◌==◌, ◌*◌, ◌/◌, Bool, true, false, not, cond, List, Option, Some, None, option_map, nat_lt, int_lt}
+use Rattle.std.proofs.Common.{ℕ, ◌%◌, ◌==◌, ◌*◌, ◌/◌, Bool, true, false, cond, List, Option, Some, None, option_map}
 use Rattle.rv_table.specs.declared.inst.Op.{Op}
 use Rattle.rv_table.specs.declared.inst.Op.TheVariants as ops
 use Rattle.rv_table.specs.declared.inst.Inst.{Inst}
@@ -11,8 +11,7 @@ use Rattle.rv_hart.specs.declared.outcome.Cause.{Cause}
 use Rattle.rv_hart.specs.declared.outcome.Cause.TheVariants as cause
 use Rattle.prof_bytes.specs.Number.{number_bytes, word_sum}
 use Rattle.rv_memory.specs.AddressSpace.{stored}
-use Rattle.rv_hart.specs.Arithmetic.{signed}
-use Rattle.rv_hart.specs.Step.{State, rs1_value, rs2_value, address, operand, trapped, retired, jumps, continues_at, branches, loads, finishes_store, executed, fetched, after_fetch, step_of}
+use Rattle.rv_hart.specs.Step.{State, rs1_value, rs2_value, address, operand, trapped, retired, jumps, continues_at, branches, loads, finishes_store, branch_test, executed, fetched, after_fetch, step_of}
 
 -- the ways in which the step of a state may end
 pub record HoldsOfEnds (P : State × Stepped → Type 0) (s : State) : Type 0 where
@@ -44,12 +43,12 @@ module _ (P : State × Stepped → Type 0) (s : State) (holds : HoldsOfEnds P s)
   of_operation ops.Illegal inst = holds.trap cause.Illegal
   of_operation ops.Jal inst = jump inst (word_sum s.pc inst.imm)
   of_operation ops.Jalr inst = jump inst (word_sum (rs1_value inst s) inst.imm / 2 * 2)
-  of_operation ops.Beq inst = branch inst (rs1_value inst s == rs2_value inst s)
-  of_operation ops.Bne inst = branch inst (not (rs1_value inst s == rs2_value inst s))
-  of_operation ops.Blt inst = branch inst (int_lt (signed (rs1_value inst s)) (signed (rs2_value inst s)))
-  of_operation ops.Bge inst = branch inst (not (int_lt (signed (rs1_value inst s)) (signed (rs2_value inst s))))
-  of_operation ops.Bltu inst = branch inst (nat_lt (rs1_value inst s) (rs2_value inst s))
-  of_operation ops.Bgeu inst = branch inst (not (nat_lt (rs1_value inst s) (rs2_value inst s)))
+  of_operation ops.Beq inst = branch inst (branch_test ops.Beq inst s)
+  of_operation ops.Bne inst = branch inst (branch_test ops.Bne inst s)
+  of_operation ops.Blt inst = branch inst (branch_test ops.Blt inst s)
+  of_operation ops.Bge inst = branch inst (branch_test ops.Bge inst s)
+  of_operation ops.Bltu inst = branch inst (branch_test ops.Bltu inst s)
+  of_operation ops.Bgeu inst = branch inst (branch_test ops.Bgeu inst s)
   of_operation ops.Lb inst = load inst (option_map (sign_extended 8) (operand inst 1 s))
   of_operation ops.Lh inst = load inst (option_map (sign_extended 16) (operand inst 2 s))
   of_operation ops.Lw inst = load inst (operand inst 4 s)

@@ -1,7 +1,7 @@
 -- One step of one hart: what the instruction at pc does to pc, registers and memory, or the trap that
 -- it meets (RISC-V unprivileged manual, "RV32I Base Integer Instruction Set").
-use Rattle.std.specs.Prelude.{◌≡◌, ℕ, ◌+◌, ◌*◌, ◌/◌, ◌%◌, ◌==◌, ◌&&◌, not, Bool, true, false, List, slice_index}
-use Rattle.std.specs.Prelude.{slice_set, Option, Some, None, option_map, if◌then◌else◌, nat_le, nat_lt, int_lt}
+use Rattle.std.specs.Prelude.{◌≡◌, ℕ, ◌*◌, ◌/◌, ◌%◌, ◌==◌, not, Bool, true, false, List, slice_index}
+use Rattle.std.specs.Prelude.{slice_set, Option, Some, None, option_map, if◌then◌else◌, nat_lt, int_lt}
 use Rattle.prof_bytes.specs.Number.{number_bytes}
 use Rattle.rv_table.specs.declared.inst.Op.{Op}
 use Rattle.rv_table.specs.declared.inst.Op.TheVariants as ops
@@ -64,9 +64,9 @@ continues_at next s = (state next s.registers s.memory, stepped.Retired)
 
 -- a branch: its target where the test holds, and else the next word ("Conditional Branches")
 abbrev pub branches : Inst → Bool → State → State × Stepped
-branches inst test s =
+branches inst taken s =
     let target = word_sum s.pc inst.imm in
-    if not test then continues_at (word_sum s.pc 4) s
+    if not taken then continues_at (word_sum s.pc 4) s
     else (if target % 4 == 0 then continues_at target s else trapped cause.Target s)
 
 -- a load of this number, if it may be made ("Load and Store Instructions")
@@ -91,6 +91,20 @@ finishes_store answer s =
 abbrev pub stores : Inst → ℕ → State → State × Stepped
 stores inst size s = finishes_store (stored s.memory (address inst s) (number_bytes size (rs2_value inst s))) s
 
+-- whether a branch is taken, by what its two registers hold ("Conditional Branches"); no other operation is taken
+abbrev pub is_taken : Op → ℕ → ℕ → Bool
+is_taken ops.Beq a b = a == b
+is_taken ops.Bne a b = not (a == b)
+is_taken ops.Blt a b = int_lt (signed a) (signed b)
+is_taken ops.Bge a b = not (int_lt (signed a) (signed b))
+is_taken ops.Bltu a b = nat_lt a b
+is_taken ops.Bgeu a b = not (nat_lt a b)
+is_taken _ a b = false
+
+-- the test of a branch in a state
+abbrev pub branch_test : Op → Inst → State → Bool
+branch_test op inst s = is_taken op (rs1_value inst s) (rs2_value inst s)
+
 -- what the instruction does, by its operation
 abbrev pub executed : Op → Inst → State → State × Stepped
 executed ops.Illegal inst s = trapped cause.Illegal s
@@ -98,12 +112,12 @@ executed ops.Lui inst s = computes inst inst.imm s
 executed ops.Auipc inst s = computes inst (word_sum s.pc inst.imm) s
 executed ops.Jal inst s = jumps inst (word_sum s.pc inst.imm) s
 executed ops.Jalr inst s = jumps inst (word_sum (rs1_value inst s) inst.imm / 2 * 2) s
-executed ops.Beq inst s = branches inst (rs1_value inst s == rs2_value inst s) s
-executed ops.Bne inst s = branches inst (not (rs1_value inst s == rs2_value inst s)) s
-executed ops.Blt inst s = branches inst (int_lt (signed (rs1_value inst s)) (signed (rs2_value inst s))) s
-executed ops.Bge inst s = branches inst (not (int_lt (signed (rs1_value inst s)) (signed (rs2_value inst s)))) s
-executed ops.Bltu inst s = branches inst (nat_lt (rs1_value inst s) (rs2_value inst s)) s
-executed ops.Bgeu inst s = branches inst (not (nat_lt (rs1_value inst s) (rs2_value inst s))) s
+executed ops.Beq inst s = branches inst (branch_test ops.Beq inst s) s
+executed ops.Bne inst s = branches inst (branch_test ops.Bne inst s) s
+executed ops.Blt inst s = branches inst (branch_test ops.Blt inst s) s
+executed ops.Bge inst s = branches inst (branch_test ops.Bge inst s) s
+executed ops.Bltu inst s = branches inst (branch_test ops.Bltu inst s) s
+executed ops.Bgeu inst s = branches inst (branch_test ops.Bgeu inst s) s
 executed ops.Lb inst s = loads inst (option_map (sign_extended 8) (operand inst 1 s)) s
 executed ops.Lh inst s = loads inst (option_map (sign_extended 16) (operand inst 2 s)) s
 executed ops.Lw inst s = loads inst (operand inst 4 s) s

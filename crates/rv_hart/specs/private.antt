@@ -2,3 +2,4 @@
 pub mod Indexing
 pub mod Decoding
 pub mod Continuing
+pub mod Counting

@@ -1,7 +1,8 @@
-//! What the operations on registers and immediates compute.
+//! What the operations on registers and immediates compute, and the tests of branches.
 ghost use Rattle.std.specs.Prelude.{◌≡◌, ◌*ℤ◌, pos};
 ghost use Rattle.rv_hart.specs.Arithmetic.{computed, signed, upper_word, quotient, quotient_signed, remainder};
 ghost use Rattle.rv_hart.specs.Arithmetic.{remainder_signed};
+ghost use Rattle.rv_hart.specs.Step.{is_taken};
 
 use rv_table::Op;
 
@@ -115,5 +116,21 @@ pub(crate) fn compute(op: Op, a: u32, b: u32, imm: u32) -> u32
         Op::Rem => rem(a, b),
         Op::Remu => remu(a, b),
         _ => 0,
+    }
+}
+
+/// Whether a branch is taken, by what its registers `a` and `b` hold; false for other operations.
+#[inline(always)]
+pub(crate) fn is_taken(op: Op, a: u32, b: u32) -> bool
+    ensures { result ≡ is_taken op a b }
+{
+    match op {
+        Op::Beq => a == b,
+        Op::Bne => a != b,
+        Op::Blt => a.cast_signed() < b.cast_signed(),
+        Op::Bge => a.cast_signed() >= b.cast_signed(),
+        Op::Bltu => a < b,
+        Op::Bgeu => a >= b,
+        _ => false,
     }
 }

@@ -1,33 +1,36 @@
 //! Instructions of one hart, one after another, as long as their words are kept decoded.
-ghost use Rattle.std.specs.Prelude.{◌≡◌, ◌-◌, ◌%◌, ◌<◌, ◌≤◌, IfOk, Ok, OnErr};
+ghost use Rattle.std.specs.Prelude.{◌≡◌, ◌-◌, ◌%◌, ◌<◌, ◌≤◌, true, IfErr, IfOk, Ok, OnErr};
+ghost use Rattle.rv_hart.specs.Events.{SpentBy};
 ghost use Rattle.rv_hart.specs.Running.{Ran};
-ghost use Rattle.rv_hart.specs.Step.{step_of, StoresNow};
+ghost use Rattle.rv_hart.specs.Step.{step_of};
 ghost use Rattle.rv_hart.specs.Stepping.{state_of};
+ghost use Rattle.rv_hart.specs.private.Counting.{HaltsAt};
 ghost use Rattle.rv_hart.specs.private.Decoding.{IsCode, HasInstructionAt};
 ghost use Rattle.rv_hart.specs.private.Indexing.{state_at, word_address};
 
+use crate::counting::{Counter, Halt};
 use crate::decoded_code::{pc_of, word_at};
 use crate::execute::{Continuation, carry_out};
 use crate::hart::Hart;
 use crate::outcome::Stepped;
-use prof_bytes::Memory;
 use rv_memory::ProgramMemory;
 use rv_table::Inst;
 
 /// Does the instruction at an index and those that follow it, as long as they retire and their words are kept, up to a
-/// given number, and says how many of these are left. All instructions of a machine are carried out here: the code of
-/// one is large, and LLVM puts it into the loop only where it is called from nowhere else. The index is in a register,
-/// since it is no part of the hart, whose registers are an array in memory. No index is tested but that of a target,
-/// since the last word is not an instruction.
+/// given number and as far as the counter has room, and says how many of these are left. All instructions of a machine
+/// are carried out here: the code of one is large, and LLVM puts it into the loop only where it is called from nowhere
+/// else. The index is in a register, since it is no part of the hart, whose registers are an array in memory. No index
+/// is tested but that of a target, since the last word is not an instruction.
 #[inline(always)]
-fn run_loop(
+fn run_loop<C: Counter>(
     items: &[Inst],
     base: u32,
     hart: &mut Hart,
     index: &mut usize,
     memory: &mut ProgramMemory<'_>,
+    counter: &mut C,
     most: u32,
-) -> (u32, Result<Stepped, Memory>)
+) -> (u32, Result<Stepped, Halt>)
     requires base { base % 4 ≡ 0 }
     requires first { HasInstructionAt memory.old base items.now index.old }
     requires words { 1 < most → IsCode memory.old base items.now }
@@ -39,18 +42,21 @@ fn run_loop(
     ensures ends { let s = state_at base index.new hart.new memory.new in
         IfOk result.1 (λ how. ¬ (how ≡ Stepped.Retired) → (s, how) ≡ step_of s) }
     ensures early { IfOk result.1 (λ how. ¬ (how ≡ Stepped.Retired) → 0 < result.0) }
-    ensures memory { OnErr result.1 (StoresNow (state_at base index.new hart.new memory.new)) }
+    ensures spent { C.counts ≡ true → SpentBy (C.left counter.old) (C.left counter.new) (most - result.0)
+        (state_at base index.old hart.old memory.old) }
+    ensures why { IfErr result.1 (λ halt. HaltsAt halt (C.left counter.new)
+        (state_at base index.new hart.new memory.new)) }
     ensures short { OnErr result.1 (0 < result.0) }
 {
     let mut left = most;
     while left > 0 {
         let inst = word_at(items, *index);
-        match carry_out(hart, index, base, items.len(), memory, inst) {
+        match carry_out(hart, index, base, items.len(), memory, counter, inst) {
             Ok(Continuation::Next) => {}
             Ok(Continuation::Outside) => return (left - 1, Ok(Stepped::Retired)),
             Ok(Continuation::Illegal) => return (left, Ok(Stepped::Retired)),
             Ok(Continuation::Stopped(how)) => return (left, Ok(how)),
-            Err(error) => return (left, Err(error)),
+            Err(halt) => return (left, Err(halt)),
         }
         left -= 1;
     }
@@ -59,14 +65,15 @@ fn run_loop(
 
 /// Does the instruction at an index, where pc is, and those that follow it.
 #[inline(never)]
-pub(crate) fn run_decoded(
+pub(crate) fn run_decoded<C: Counter>(
     items: &[Inst],
     base: u32,
     first: usize,
     hart: &mut Hart,
     memory: &mut ProgramMemory<'_>,
+    counter: &mut C,
     most: u32,
-) -> (u32, Result<Stepped, Memory>)
+) -> (u32, Result<Stepped, Halt>)
     requires base { base % 4 ≡ 0 }
     requires pc { word_address base first ≡ hart.old.pc }
     requires first { HasInstructionAt memory.old base items.now first }
@@ -78,11 +85,13 @@ pub(crate) fn run_decoded(
     ensures ends { IfOk result.1 (λ how. ¬ (how ≡ Stepped.Retired)
         → (state_of hart.new memory.new, how) ≡ step_of (state_of hart.new memory.new)) }
     ensures early { IfOk result.1 (λ how. ¬ (how ≡ Stepped.Retired) → result.0 < most) }
-    ensures memory { OnErr result.1 (StoresNow (state_of hart.new memory.new)) }
+    ensures spent { C.counts ≡ true → SpentBy (C.left counter.old) (C.left counter.new) result.0
+        (state_of hart.old memory.old) }
+    ensures why { IfErr result.1 (λ halt. HaltsAt halt (C.left counter.new) (state_of hart.new memory.new)) }
     ensures short { OnErr result.1 (result.0 < most) }
 {
     let mut index = first;
-    let (left, last) = run_loop(items, base, hart, &mut index, memory, most);
+    let (left, last) = run_loop(items, base, hart, &mut index, memory, counter, most);
     hart.pc = pc_of(base, index);
     (most - left, last)
 }

@@ -1,24 +1,25 @@
 //! What an instruction does to its hart and to memory.
-ghost use Rattle.std.specs.Prelude.{◌≡◌, ◌<◌, ◌≤◌, ◌*◌, ◌%◌, ◌^◌, ℕ, List, true, IfOk, IfSome, OnErr, option_map};
-ghost use Rattle.prof_bytes.specs.Number.{number_bytes};
-ghost use Rattle.rv_table.specs.Fields.{sign_extended};
+ghost use Rattle.std.specs.Prelude.{◌≡◌, ◌%◌, ℕ, List, IfErr, IfOk, OnErr};
 ghost use Rattle.rv_table.specs.Table.{HasRegisters};
-ghost use Rattle.rv_memory.specs.AddressSpace.{AddressSpace, is_size, stored};
+ghost use Rattle.rv_memory.specs.AddressSpace.{AddressSpace};
 ghost use Rattle.prof_bytes.specs.Number.{word_sum};
 ghost use Rattle.rv_hart.specs.Arithmetic.{computed};
 ghost use Rattle.rv_hart.specs.private.Continuing.{step_ended, Continues, ContinuesBy};
+ghost use Rattle.rv_hart.specs.private.Counting.{Counts, Halts, IsFullHalt, event_by_taken};
 ghost use Rattle.rv_hart.specs.private.Indexing.{word_address, state_at};
-ghost use Rattle.rv_hart.specs.Step.{State, state, rs1_value, rs2_value, operand, computes, jumps, branches};
-ghost use Rattle.rv_hart.specs.Step.{continues_at};
-ghost use Rattle.rv_hart.specs.Step.{loads, finishes_store, stores, carried_out, is_store};
+ghost use Rattle.rv_hart.specs.Events.{inst_event};
+ghost use Rattle.rv_hart.specs.Step.{state, rs1_value, rs2_value, computes, jumps, branches, branch_test, continues_at};
+ghost use Rattle.rv_hart.specs.Step.{carried_out};
 
-use crate::compute::compute;
+use crate::compute::{compute, is_taken};
+use crate::counting::{Counter, Halt};
 use crate::decoded_code::{index_of, pc_of};
 use crate::hart::{Hart, read, write};
+use crate::load_store::{load, loaded, signed_byte, signed_half, store};
 use crate::outcome::{Cause, Stepped};
-use prof_bytes::Memory;
 use rv_memory::ProgramMemory;
 use rv_table::{Inst, Op};
+use scope_types::Event;
 
 /// How execution continues after one instruction.
 #[derive(Clone, Copy, Debug, PartialEq, Eq)]
@@ -35,10 +36,11 @@ pub(crate) enum Continuation {
 
 /// The hart goes on with the word after this one.
 #[inline(always)]
-fn to_next(index: &mut usize) -> Continuation
+pub(crate) fn to_next(index: &mut usize) -> Continuation
     ensures ends { (base : ℕ) (registers : List ℕ) (m : AddressSpace) →
         let s = state (word_address base index.old) registers m in
         (state (word_address base index.new) registers m, step_ended result) ≡ continues_at (word_sum s.pc 4) s }
+    ensures retires { step_ended result ≡ Stepped.Retired }
     ensures goes { (count : ℕ) → Continues count index.old index.new result }
 {
     *index = index.wrapping_add(1);
@@ -47,10 +49,16 @@ fn to_next(index: &mut usize) -> Continuation
 
 /// The value goes into the destination.
 #[inline(always)]
-fn write_back(hart: &mut Hart, index: &mut usize, inst: &Inst, value: u32) -> Continuation
+pub(crate) fn write_back(
+    hart: &mut Hart,
+    index: &mut usize,
+    inst: &Inst,
+    value: u32,
+) -> Continuation
     requires { HasRegisters inst.now }
     ensures ends { (base : ℕ) (m : AddressSpace) → (state_at base index.new hart.new m, step_ended result)
         ≡ computes inst.now value (state_at base index.old hart.old m) }
+    ensures retires { step_ended result ≡ Stepped.Retired }
     ensures goes { (count : ℕ) → Continues count index.old index.new result }
 {
     write(hart, inst.rd, value);
@@ -112,144 +120,70 @@ fn jump(
     to_target(index, base, count, target)
 }
 
+/// A conditional branch. Where it is taken it is counted, unless there may be no more of these.
 #[inline(always)]
-fn branch(index: &mut usize, base: u32, count: usize, inst: &Inst, taken: bool) -> Continuation
+fn branch<C: Counter>(
+    hart: &Hart,
+    index: &mut usize,
+    base: u32,
+    count: usize,
+    counter: &mut C,
+    inst: &Inst,
+    op: Op,
+) -> Result<Continuation, Halt>
+    requires registers { HasRegisters inst.now }
     requires base { base % 4 ≡ 0 }
-    ensures ends { (registers : List ℕ) (m : AddressSpace) →
-        (state (word_address base index.new) registers m, step_ended result)
-        ≡ branches inst.now taken (state (word_address base index.old) registers m) }
-    ensures goes { Continues count index.old index.new result }
+    ensures ends { (m : AddressSpace) → let s = state_at base index.old hart.now m in
+        IfOk result (λ how. (state_at base index.new hart.now m, step_ended how)
+        ≡ branches inst.now (branch_test op inst.now s) s) }
+    ensures goes { IfOk result (λ how. Continues count index.old index.new how) }
+    ensures counts { (m : AddressSpace) → let s = state_at base index.old hart.now m in
+        IfOk result (λ how. Counts C.counts (C.left counter.old) (C.left counter.new)
+        (event_by_taken (branch_test op inst.now s)) (step_ended how)) }
+    ensures err { OnErr result (index.new ≡ index.old) }
+    ensures unspent { OnErr result (counter.new ≡ counter.old) }
+    ensures full { (m : AddressSpace) → let s = state_at base index.old hart.now m in
+        IfErr result (λ halt. IsFullHalt halt (C.left counter.old) (event_by_taken (branch_test op inst.now s))) }
 {
-    if !taken {
-        *index = index.wrapping_add(1);
-        return Continuation::Next;
+    if !is_taken(op, read(hart, inst.rs1), read(hart, inst.rs2)) {
+        return Ok(to_next(index));
     }
     let target = pc_of(base, *index).wrapping_add(inst.imm);
     if target % 4 != 0 {
-        return Continuation::Stopped(Stepped::Trap(Cause::Target));
+        return Ok(Continuation::Stopped(Stepped::Trap(Cause::Target)));
     }
-    to_target(index, base, count, target)
-}
-
-/// A number that was loaded goes into the destination.
-#[inline(always)]
-fn load(hart: &mut Hart, index: &mut usize, inst: &Inst, number: Option<u32>) -> Continuation
-    requires { HasRegisters inst.now }
-    ensures ends { (base : ℕ) (m : AddressSpace) → (state_at base index.new hart.new m, step_ended result)
-        ≡ loads inst.now number (state_at base index.old hart.old m) }
-    ensures goes { (count : ℕ) → Continues count index.old index.new result }
-{
-    match number {
-        Some(number) => write_back(hart, index, inst, number),
-        None => Continuation::Stopped(Stepped::Trap(Cause::Load)),
+    if !counter.has_room(Event::Taken) {
+        return Err(Halt::Full);
     }
+    counter.count(Event::Taken);
+    Ok(to_target(index, base, count, target))
 }
 
+/// Carries out the instruction of the word at an index among a given number, and counts its event. The hart's own pc is
+/// not changed.
 #[inline(always)]
-fn signed_byte(number: Option<u32>) -> Option<u32>
-    requires { IfSome number (λ n. n < 2 ^ 8) }
-    ensures { result ≡ option_map (sign_extended 8) number }
-{
-    match number {
-        Some(number) if number >= 0x80 => Some(number + 0xffff_ff00),
-        other => other,
-    }
-}
-
-#[inline(always)]
-fn signed_half(number: Option<u32>) -> Option<u32>
-    requires { IfSome number (λ n. n < 2 ^ 16) }
-    ensures { result ≡ option_map (sign_extended 16) number }
-{
-    match number {
-        Some(number) if number >= 0x8000 => Some(number + 0xffff_0000),
-        other => other,
-    }
-}
-
-/// The number that a load means, where it may be loaded.
-#[inline(always)]
-fn loaded(hart: &Hart, memory: &mut ProgramMemory<'_>, inst: &Inst, size: u32) -> Option<u32>
-    requires registers { HasRegisters inst.now }
-    requires size { is_size size ≡ true }
-    ensures same { memory.new ≡ memory.old }
-    ensures number { (pc : ℕ) → result ≡ operand inst.now size (state pc hart.now.regs memory.old) }
-    ensures fits { IfSome result (λ number. number < 2 ^ (8 * size)) }
-{
-    let at = read(hart, inst.rs1).wrapping_add(inst.imm);
-    memory.load_caching(at, size)
-}
-
-/// The lowest bytes of a word go into memory from this address on.
-#[inline(always)]
-fn finish_store(
-    index: &mut usize,
-    memory: &mut ProgramMemory<'_>,
-    at: u32,
-    word: u32,
-    size: usize,
-) -> Result<Continuation, Memory>
-    requires size { size ≤ 4 }
-    ensures ok { (base : ℕ) (registers : List ℕ) →
-        let s = state (word_address base index.old) registers memory.old in
-        IfOk result (λ how. (state (word_address base index.new) registers memory.new, step_ended how)
-        ≡ finishes_store (stored memory.old at (number_bytes size word)) s) }
-    ensures goes { IfOk result (λ how. (count : ℕ) → Continues count index.old index.new how) }
-    ensures err { OnErr result (index.new ≡ index.old) }
-    ensures same { OnErr result (memory.new ≡ memory.old) }
-    ensures retires { let after = stored memory.old at (number_bytes size word) in
-        (s : State) → OnErr result ((finishes_store after s).1 ≡ Stepped.Retired) }
-{
-    match memory.store_word(at, word, size) {
-        Ok(true) => Ok(to_next(index)),
-        Ok(false) => Ok(Continuation::Stopped(Stepped::Trap(Cause::Store))),
-        Err(error) => Err(error),
-    }
-}
-
-/// The lowest bytes of the second register go into memory.
-#[inline(always)]
-fn store(
-    hart: &Hart,
-    index: &mut usize,
-    memory: &mut ProgramMemory<'_>,
-    inst: &Inst,
-    size: usize,
-) -> Result<Continuation, Memory>
-    requires registers { HasRegisters inst.now }
-    requires size { size ≤ 4 }
-    ensures ok { (base : ℕ) → IfOk result (λ how. (state_at base index.new hart.now memory.new, step_ended how)
-        ≡ stores inst.now size (state_at base index.old hart.now memory.old)) }
-    ensures goes { IfOk result (λ how. (count : ℕ) → Continues count index.old index.new how) }
-    ensures err { OnErr result (index.new ≡ index.old) }
-    ensures same { OnErr result (memory.new ≡ memory.old) }
-    ensures retires { (base : ℕ) → OnErr result
-        ((stores inst.now size (state_at base index.old hart.now memory.old)).1 ≡ Stepped.Retired) }
-{
-    let at = read(hart, inst.rs1).wrapping_add(inst.imm);
-    finish_store(index, memory, at, read(hart, inst.rs2), size)
-}
-
-/// Carries out the instruction of the word at an index among a given number. The hart's own pc is not changed.
-#[inline(always)]
-pub(crate) fn carry_out(
+pub(crate) fn carry_out<C: Counter>(
     hart: &mut Hart,
     index: &mut usize,
     base: u32,
     count: usize,
     memory: &mut ProgramMemory<'_>,
+    counter: &mut C,
     inst: &Inst,
-) -> Result<Continuation, Memory>
+) -> Result<Continuation, Halt>
     requires registers { HasRegisters inst.now }
     requires base { base % 4 ≡ 0 }
     ensures ok { IfOk result (λ how. (state_at base index.new hart.new memory.new, step_ended how)
         ≡ carried_out inst.now (state_at base index.old hart.old memory.old)) }
     ensures goes { IfOk result (λ how. ContinuesBy inst.now.op count index.old index.new how) }
+    ensures counts { let s = state_at base index.old hart.old memory.old in
+        IfOk result (λ how. Counts C.counts (C.left counter.old) (C.left counter.new)
+        (inst_event inst.now s) (step_ended how)) }
     ensures err { OnErr result
         (state_at base index.new hart.new memory.new ≡ state_at base index.old hart.old memory.old) }
-    ensures retires { OnErr result
-        ((carried_out inst.now (state_at base index.old hart.old memory.old)).1 ≡ Stepped.Retired) }
-    ensures store { OnErr result (is_store inst.now.op ≡ true) }
+    ensures unspent { OnErr result (counter.new ≡ counter.old) }
+    ensures why { IfErr result (λ halt. Halts halt (C.left counter.old) inst.now
+        (state_at base index.old hart.old memory.old)) }
 {
     Ok(match inst.op {
         Op::Illegal => Continuation::Illegal,
@@ -276,66 +210,32 @@ pub(crate) fn carry_out(
             inst,
             read(hart, inst.rs1).wrapping_add(inst.imm) / 2 * 2,
         ),
-        Op::Beq => branch(
-            index,
-            base,
-            count,
-            inst,
-            read(hart, inst.rs1) == read(hart, inst.rs2),
-        ),
-        Op::Bne => branch(
-            index,
-            base,
-            count,
-            inst,
-            read(hart, inst.rs1) != read(hart, inst.rs2),
-        ),
-        Op::Blt => branch(
-            index,
-            base,
-            count,
-            inst,
-            read(hart, inst.rs1).cast_signed() < read(hart, inst.rs2).cast_signed(),
-        ),
-        Op::Bge => branch(
-            index,
-            base,
-            count,
-            inst,
-            read(hart, inst.rs1).cast_signed() >= read(hart, inst.rs2).cast_signed(),
-        ),
-        Op::Bltu => branch(
-            index,
-            base,
-            count,
-            inst,
-            read(hart, inst.rs1) < read(hart, inst.rs2),
-        ),
-        Op::Bgeu => branch(
-            index,
-            base,
-            count,
-            inst,
-            read(hart, inst.rs1) >= read(hart, inst.rs2),
-        ),
-        Op::Lb => load(
+        Op::Beq => return branch(hart, index, base, count, counter, inst, Op::Beq),
+        Op::Bne => return branch(hart, index, base, count, counter, inst, Op::Bne),
+        Op::Blt => return branch(hart, index, base, count, counter, inst, Op::Blt),
+        Op::Bge => return branch(hart, index, base, count, counter, inst, Op::Bge),
+        Op::Bltu => return branch(hart, index, base, count, counter, inst, Op::Bltu),
+        Op::Bgeu => return branch(hart, index, base, count, counter, inst, Op::Bgeu),
+        Op::Lb => return load(
             hart,
             index,
+            counter,
             inst,
             signed_byte(loaded(hart, memory, inst, 1)),
         ),
-        Op::Lh => load(
+        Op::Lh => return load(
             hart,
             index,
+            counter,
             inst,
             signed_half(loaded(hart, memory, inst, 2)),
         ),
-        Op::Lw => load(hart, index, inst, loaded(hart, memory, inst, 4)),
-        Op::Lbu => load(hart, index, inst, loaded(hart, memory, inst, 1)),
-        Op::Lhu => load(hart, index, inst, loaded(hart, memory, inst, 2)),
-        Op::Sb => return store(hart, index, memory, inst, 1),
-        Op::Sh => return store(hart, index, memory, inst, 2),
-        Op::Sw => return store(hart, index, memory, inst, 4),
+        Op::Lw => return load(hart, index, counter, inst, loaded(hart, memory, inst, 4)),
+        Op::Lbu => return load(hart, index, counter, inst, loaded(hart, memory, inst, 1)),
+        Op::Lhu => return load(hart, index, counter, inst, loaded(hart, memory, inst, 2)),
+        Op::Sb => return store(hart, index, memory, counter, inst, 1),
+        Op::Sh => return store(hart, index, memory, counter, inst, 2),
+        Op::Sw => return store(hart, index, memory, counter, inst, 4),
         Op::Fence => to_next(index),
         Op::Ecall => Continuation::Stopped(Stepped::Ecall),
         Op::Ebreak => Continuation::Stopped(Stepped::Break),

@@ -1,19 +1,27 @@
 //! The memory of a program with the words of it that are decoded.
-ghost use Rattle.std.specs.Prelude.{◌≡◌, ◌<◌, ◌≤◌, ◌*◌, ◌^◌, true, IfOk, IfSome, Ok, OnErr, length};
+ghost use Rattle.std.specs.Prelude.{◌≡◌, ◌<◌, ◌≤◌, ◌*◌, ◌^◌, true, IfErr, IfOk, IfSome, Ok, OnErr, length};
+ghost use Rattle.std.specs.Prelude.{option_map};
 ghost use Rattle.elf_image.specs.declared.elf.TheConstants.{PF_W};
-ghost use Rattle.rv_memory.specs.AddressSpace.{is_size, loaded, stored, may_all, first_memory, most_stacks};
+ghost use Rattle.rv_memory.specs.AddressSpace.{is_size, loaded, stored, may_all, fetched_at, first_memory};
+ghost use Rattle.rv_memory.specs.AddressSpace.{most_stacks};
+ghost use Rattle.rv_table.specs.Table.{HasRegisters, decoded};
+ghost use Rattle.rv_hart.specs.Events.{SpentBy};
 ghost use Rattle.rv_hart.specs.Running.{Ran};
-ghost use Rattle.rv_hart.specs.Step.{step_of, StoresNow};
+ghost use Rattle.rv_hart.specs.Step.{step_of};
 ghost use Rattle.rv_hart.specs.Stepping.{state_of};
+ghost use Rattle.rv_hart.specs.private.Counting.{HaltsAt};
 
-use crate::decoded_code::{DecodedCode, END, decoded_at, decoded_regions, is_illegal, longest};
+use crate::counting::{Counter, Halt};
+use crate::decoded_code::{
+    DecodedCode, END, decoded_at, decoded_regions, is_illegal, longest, word_at,
+};
 use crate::decoded_run::run_decoded;
 use crate::hart::Hart;
 use crate::outcome::{Cause, Stepped};
 use elf_image::{Image, RangeTable};
 use prof_bytes::Memory;
 use rv_memory::ProgramMemory;
-use rv_table::decode;
+use rv_table::{Inst, decode};
 use scope_types::{Look, MemorySlice};
 use std::alloc::Global;
 use std::marker::Model;
@@ -80,10 +88,28 @@ impl<'a> Space<'a> {
         self.memory.store(at, bytes)
     }
 
-    /// Does instructions of the hart as long as they retire, up to a given number, and one at least: the one at pc,
-    /// and those that follow it as long as their words are kept decoded.
+    /// The instruction at pc; `None` where its word may not be fetched.
     #[inline(always)]
-    pub(crate) fn run_some(&mut self, hart: &mut Hart, most: u32) -> (u32, Result<Stepped, Memory>)
+    pub(crate) fn inst_at(&self, pc: u32) -> Option<Inst>
+        ensures inst { result ≡ option_map decoded (fetched_at self.now pc) }
+        ensures registers { IfSome result HasRegisters }
+    {
+        let Some((code, index)) = decoded_at(&self.decoded, self.likely, &self.memory, pc) else {
+            let word = self.memory.peek(pc)?;
+            return Some(decode(word));
+        };
+        Some(*word_at(code.items.as_slice(), index))
+    }
+
+    /// Does instructions of the hart as long as they retire, up to a given number, and one at least: the one at pc,
+    /// and those that follow it as long as their words are kept decoded and the counter has room.
+    #[inline(always)]
+    pub(crate) fn run_some<C: Counter>(
+        &mut self,
+        hart: &mut Hart,
+        counter: &mut C,
+        most: u32,
+    ) -> (u32, Result<Stepped, Halt>)
         requires { 0 < most }
         ensures few { result.0 ≤ most }
         ensures ran { Ran result.0 (state_of hart.old self.old) (state_of hart.new self.new) }
@@ -91,12 +117,14 @@ impl<'a> Space<'a> {
         ensures ends { IfOk result.1 (λ how. ¬ (how ≡ Stepped.Retired)
             → (state_of hart.new self.new, how) ≡ step_of (state_of hart.new self.new)) }
         ensures early { IfOk result.1 (λ how. ¬ (how ≡ Stepped.Retired) → result.0 < most) }
-        ensures memory { OnErr result.1 (StoresNow (state_of hart.new self.new)) }
+        ensures spent { C.counts ≡ true → SpentBy (C.left counter.old) (C.left counter.new) result.0
+            (state_of hart.old self.old) }
+        ensures why { IfErr result.1 (λ halt. HaltsAt halt (C.left counter.new) (state_of hart.new self.new)) }
         ensures short { OnErr result.1 (result.0 < most) }
     {
         let found = decoded_at(&self.decoded, self.likely, &self.memory, hart.pc);
         let Some((code, first)) = found else {
-            return self.run_fetched(hart);
+            return self.run_fetched(hart, counter);
         };
         run_decoded(
             code.items.as_slice(),
@@ -104,20 +132,27 @@ impl<'a> Space<'a> {
             first,
             hart,
             &mut self.memory,
+            counter,
             most,
         )
     }
 
     /// Does the instruction at pc, whose word is not kept.
     #[inline(never)]
-    fn run_fetched(&mut self, hart: &mut Hart) -> (u32, Result<Stepped, Memory>)
+    fn run_fetched<C: Counter>(
+        &mut self,
+        hart: &mut Hart,
+        counter: &mut C,
+    ) -> (u32, Result<Stepped, Halt>)
         ensures few { result.0 ≤ 1 }
         ensures ran { Ran result.0 (state_of hart.old self.old) (state_of hart.new self.new) }
         ensures some { result.1 ≡ Ok Stepped.Retired → 0 < result.0 }
         ensures ends { IfOk result.1 (λ how. ¬ (how ≡ Stepped.Retired)
             → (state_of hart.new self.new, how) ≡ step_of (state_of hart.new self.new)) }
         ensures early { IfOk result.1 (λ how. ¬ (how ≡ Stepped.Retired) → result.0 < 1) }
-        ensures memory { OnErr result.1 (StoresNow (state_of hart.new self.new)) }
+        ensures spent { C.counts ≡ true → SpentBy (C.left counter.old) (C.left counter.new) result.0
+            (state_of hart.old self.old) }
+        ensures why { IfErr result.1 (λ halt. HaltsAt halt (C.left counter.new) (state_of hart.new self.new)) }
         ensures short { OnErr result.1 (result.0 < 1) }
     {
         let Some(word) = self.memory.fetch(hart.pc) else {
@@ -127,7 +162,7 @@ impl<'a> Space<'a> {
         if is_illegal(&inst) {
             return (0, Ok(Stepped::Trap(Cause::Illegal)));
         }
-        run_decoded(&[inst, END], hart.pc, 0, hart, &mut self.memory, 1)
+        run_decoded(&[inst, END], hart.pc, 0, hart, &mut self.memory, counter, 1)
     }
 }
 

@@ -1,25 +1,32 @@
-use Rattle.std.proofs.Common.{arith}
+use Rattle.std.proofs.Common.{◌≡◌, ◌<◌, Result, IfOk, OnErr, sym, subst, ◌∙◌}
+use Rattle.prof_bytes.specs.declared.fail.Memory.{Memory}
+use Rattle.rv_hart.specs.declared.outcome.Stepped.{Stepped}
+use Rattle.rv_hart.specs.declared.outcome.Stepped.TheVariants as stepped
+use Rattle.rv_hart.specs.Step.{State, StoresNow, step_of}
 use Rattle.rv_hart.specs.Stepping.{state_of}
-use Rattle.rv_hart.proofs.Runs.{ran-none, ran-twice}
+use Rattle.rv_hart.proofs.Spending.{plain-retired, last-ends, last-memory, last-short}
 use Rattle.rv_hart.proofs.stepping.run.Goals as goal
 
-pub loop-count-init : goal.loop-count-init
-loop-count-init c = record { few = omega arith; ran = ran-none (state_of c.args.hart.now c.args.space.now) }
+pub returns-clause-all : goal.returns-clause-all
+returns-clause-all c is = plain-retired (c.run_with-count.result.0 ≡ c.args.most) c.run_with-count.result.1 (state_of c.run_with-count.new.hart c.run_with-count.new.space) c.run_with-count.ensures.all c.run_with-count.ensures.why (sym c.without_full.ensures ∙ is)
 
-pub returns-then-not-has_retired-clause-ran : goal.returns-then-not-has_retired-clause-ran
-returns-then-not-has_retired-clause-ran c =
-    ran-twice c.loop-count.count c.run_some-more.result.0 (state_of c.args.hart.now c.args.space.now) (state_of c.loop-count.hart c.loop-count.space) (state_of c.run_some-more.new.hart c.run_some-more.new.self)
-    c.loop-count.invariant.ran c.run_some-more.ensures.ran
+pub returns-clause-ends : goal.returns-clause-ends
+returns-clause-ends c =
+    let t : State = state_of c.run_with-count.new.hart c.run_with-count.new.space in
+    subst (λ (r : Result Stepped Memory). IfOk r (λ how. ¬ (how ≡ stepped.Retired) → ◌≡◌ {A = State × Stepped} (t, how) (step_of t))) (sym c.without_full.ensures)
+    (last-ends (λ how. ◌≡◌ {A = State × Stepped} (t, how) (step_of t)) c.run_with-count.result.1 c.run_with-count.ensures.ends)
 
-pub loop-count-preserved : goal.loop-count-preserved
-loop-count-preserved c = record {
-  few = omega (arith, c.loop-count-test.true, c.run_some-more.ensures.few);
-  ran =
-      ran-twice c.loop-count.count c.run_some-more.result.0 (state_of c.args.hart.now c.args.space.now) (state_of c.loop-count.hart c.loop-count.space) (state_of c.run_some-more.new.hart c.run_some-more.new.self)
-      c.loop-count.invariant.ran c.run_some-more.ensures.ran;
-}
+pub returns-clause-early : goal.returns-clause-early
+returns-clause-early c =
+    subst (λ (r : Result Stepped Memory). IfOk r (λ how. ¬ (how ≡ stepped.Retired) → c.run_with-count.result.0 < c.args.most)) (sym c.without_full.ensures)
+    (last-ends (λ _. c.run_with-count.result.0 < c.args.most) c.run_with-count.result.1 c.run_with-count.ensures.early)
 
-pub returns-in-Err-clause-ran : goal.returns-in-Err-clause-ran
-returns-in-Err-clause-ran c =
-    ran-twice c.loop-count.count c.run_some-more.result.0 (state_of c.args.hart.now c.args.space.now) (state_of c.loop-count.hart c.loop-count.space) (state_of c.run_some-more.new.hart c.run_some-more.new.self)
-    c.loop-count.invariant.ran c.run_some-more.ensures.ran
+pub returns-clause-memory : goal.returns-clause-memory
+returns-clause-memory c =
+    subst (λ (r : Result Stepped Memory). OnErr r (StoresNow (state_of c.run_with-count.new.hart c.run_with-count.new.space))) (sym c.without_full.ensures)
+    (last-memory (λ _. 1) c.run_with-count.result.1 (state_of c.run_with-count.new.hart c.run_with-count.new.space) c.run_with-count.ensures.why)
+
+pub returns-clause-short : goal.returns-clause-short
+returns-clause-short c =
+    subst (λ (r : Result Stepped Memory). OnErr r (c.run_with-count.result.0 < c.args.most)) (sym c.without_full.ensures)
+    (last-short (c.run_with-count.result.0 < c.args.most) c.run_with-count.result.1 c.run_with-count.ensures.short)
