@@ -41,10 +41,10 @@ struct Ended {
 /// Carries out a run, many instructions at a time.
 fn carry_out(machine: &mut Machine<'_>) -> Result<(), Trouble> {
     for _ in 0..8 {
-        let Some(due) = machine.due() else {
+        let Some(upcoming) = machine.upcoming() else {
             return Ok(());
         };
-        machine.pass(&due, 1000)?;
+        machine.pass(&upcoming, 1000)?;
     }
     Ok(())
 }

@@ -1,7 +1,7 @@
 //! Runs of programs under a schedule: what they read, write and answer, and how their harts end.
 use crate::guests::{ADDER, Trouble, guest, machine_of};
 use rv_run::linux::{SYS_READ, SYS_WRITE};
-use rv_run::{Due, HartEnd, Machine, Moment};
+use rv_run::{HartEnd, Machine, Moment, Upcoming};
 use std::alloc::Global;
 use std::test::Fail as Failed;
 
@@ -94,12 +94,12 @@ fn other_output(machine: &mut Machine<'_>) -> Result<Option<&'static str>, Troub
 
 /// Whether this is due, and comes next.
 fn comes(machine: &mut Machine<'_>, moment: Moment) -> Result<bool, Trouble> {
-    let due = Due {
+    let upcoming = Upcoming {
         hart: moment.hart,
         pc: moment.pc,
         ordinal: moment.ordinal,
     };
-    Ok(machine.due() == Some(due) && machine.next()? == Some(moment))
+    Ok(machine.upcoming() == Some(upcoming) && machine.next()? == Some(moment))
 }
 
 /// The first moment that doesn't come.

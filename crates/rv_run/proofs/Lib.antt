@@ -8,3 +8,4 @@ pub mod Ending
 pub mod Scheduling
 pub mod Cutting
 pub mod Running
+pub mod CountedPassing

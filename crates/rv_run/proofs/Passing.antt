@@ -1,24 +1,29 @@
 -- Instructions that retire by themselves, one state_after another.
-use Rattle.std.proofs.Common.{◌≡◌, ◌≢◌, ◌⊎◌, inl, inr, ℕ, zero, suc, ◌+◌, ◌-◌, ◌<◌, ◌≤◌, Bool, true, false, cond, List, [], ◌∷◌, ◌++◌, length, min, Some, None, length-append, refl, sym, ap, subst, ◌∙◌, append_assoc, arith}
+use Rattle.std.proofs.Common.{◌≡◌, ◌≢◌, ◌⊎◌, inl, inr, ℕ, zero, suc, ◌+◌, ◌-◌, ◌<◌, ◌≤◌, Bool, true, false, cond, List, [], ◌∷◌, ◌++◌, length, min, Some, None, length-append, refl, sym, ap, ap₂, subst, ◌∙◌, append_assoc, arith}
 use Rattle.std.specs.List.{All}
 use Rattle.std.proofs.lemmas.List.{get_or-set_same}
 use Rattle.std.proofs.lemmas.List.Elements.{All-push}
 use Rattle.std.proofs.lemmas.Bool.Decides.{eqb_tells}
+use Rattle.std.proofs.lemmas.List.Sums.{sum_by-append, sum_by-cons}
+use Rattle.scope_types.specs.declared.event.Event.{Event}
+use Rattle.rv_hart.specs.Events.{extra_event, occurs}
+use Rattle.rv_hart.specs.Running.{after_steps}
 use Rattle.rv_hart.specs.Step.{State, step_of}
+use Rattle.rv_hart.proofs.Spending.{count-more, count-none}
 use Rattle.rv_hart.specs.declared.outcome.Stepped.{Stepped}
 use Rattle.rv_hart.specs.declared.outcome.Stepped.TheVariants as stepped
 use Rattle.rv_run.specs.declared.schedule.Slice.{Slice}
-use Rattle.rv_run.specs.declared.machine.Due.{Due}
+use Rattle.rv_run.specs.declared.machine.Upcoming.{Upcoming}
 use Rattle.rv_run.specs.declared.machine.Moment.{Moment}
 use Rattle.rv_run.specs.private.Reading.{first_or_none}
 use Rattle.rv_run.specs.Schedule.{instructions, most_instructions}
 use Rattle.rv_run.specs.State.{HartState, MachineState, hart_of, no_hart, runs, is_running, step_state, stepped_hart}
 use Rattle.rv_run.specs.Calls.{Acted}
 use Rattle.rv_run.specs.Run.{Instant, Run, acts, state_after, next_instant, finished, preceded, joined, run_slice, run_slices, stepped_machine}
-use Rattle.rv_run.specs.Progress.{Progress, CountsRetired, IsBetween, Carried, PassDone, Broke, WentOn, plus_one, to_come, count_of_first, due_of, first_due, is_plain, retires_plainly, plain_count, some_of, pass_length}
+use Rattle.rv_run.specs.Progress.{Progress, CountsRetired, IsBetween, Carried, PassDone, Broke, WentOn, plus_one, to_come, count_of_first, upcoming_of, first_upcoming, is_plain, retires_plainly, plain_count, some_of, pass_length, counted_event, event_instants, hart_event, instant_event, retired_in}
 use Rattle.rv_run.specs.private.Queue.{Passing, less, HaveRoom, CanGoOn, FirstCanGoOn}
 use Rattle.rv_run.proofs.Counting.{acts-as, counts-of}
-use Rattle.rv_run.proofs.Slices.{IsDue, less-by}
+use Rattle.rv_run.proofs.Slices.{IsUpcoming, less-by}
 
 pub preceded-twice : (xs ys : List Instant) (run : Run) → preceded xs (preceded ys run) ≡ preceded (xs ++ ys) run
 preceded-twice xs ys run = ap (λ (all : List Instant). record { instants = all; final = run.final }) (sym (append_assoc xs ys run.instants))
@@ -74,6 +79,8 @@ passing-first hart s running =
       harts = refl;
       running = running;
       none = λ e. refl;
+      retired = refl;
+      events = λ event. sym (count-none event (step_state (hart_of s hart) s.memory));
     }
 
 one-slice : (s : MachineState) (hart more : ℕ) → is_running (hart_of s hart) ≡ true → run_slice (suc more) hart s ≡ preceded (next_instant hart s ∷ []) (run_slice more hart (state_after hart s))
@@ -83,8 +90,23 @@ one-slice s hart more running = ap (λ (b : Bool). cond b (preceded (next_instan
 wider : (hart from to wide : ℕ) (all : List Instant) → to ≤ wide → All (IsBetween hart from to) all → All (IsBetween hart from wide) all
 wider hart from to wide all le between = λ k d few. record { own = (between k d few).own; low = (between k d few).low; high = omega (arith, le, (between k d few).high) }
 
-pub passing-more : (hart many : ℕ) (a b c : MachineState) → Passing hart many a b → Plain hart b c → hart < length a.harts → Passing hart (many + 1) a c
-passing-more hart many a b c was now within =
+-- an instruction counts as one where it retired
+abbrev one_if : Instant → ℕ
+one_if i = cond i.moment.retired 1 0
+
+one-retired : (i : Instant) → i.moment.retired ≡ true → retired_in (i ∷ []) ≡ 1
+one-retired i retired =
+    sum_by-cons one_if i [] ∙ (let e : cond i.moment.retired 1 0 + 0 ≡ cond i.moment.retired 1 0 = omega arith in e) ∙ ap (λ (b : Bool). cond b 1 0) retired
+
+-- the event of the next instruction
+one-event : (event : Event) (hart : ℕ) (s t : MachineState) (u : State) → Plain hart s t → step_state (hart_of s hart) s.memory ≡ u → event_instants event (next_instant hart s ∷ []) ≡ occurs event (extra_event u)
+one-event event hart s t u now at =
+    sum_by-cons (λ (i : Instant). occurs event (counted_event i.moment.retired (instant_event i))) (next_instant hart s) []
+    ∙ (let e : occurs event (counted_event (acts hart s).retired (hart_event hart s)) + 0 ≡ occurs event (counted_event (acts hart s).retired (hart_event hart s)) = omega arith in e)
+    ∙ ap₂ (λ (b : Bool) (v : State). occurs event (counted_event b (extra_event v))) (sym (ap (λ (x : Acted). x.retired) now.0)) at
+
+pub passing-more : (hart many : ℕ) (a b c : MachineState) → Passing hart many a b → Plain hart b c → hart < length a.harts → step_state (hart_of b hart) b.memory ≡ after_steps many (step_state (hart_of a hart) a.memory) → Passing hart (many + 1) a c
+passing-more hart many a b c was now within at =
     let counts : CountsRetired hart true b c = counts-of hart b c true now.0 (omega (arith, was.harts)) in
     let i : Instant = next_instant hart b in
     record {
@@ -109,6 +131,13 @@ passing-more hart many a b c was now within =
       harts = counts.harts ∙ was.harts;
       running = ap runs now.1 ∙ was.running;
       none = λ e. absurd (omega arith);
+      retired =
+          sum_by-append one_if was.passed (next_instant hart b ∷ [])
+          ∙ ap₂ (λ (m n : ℕ). m + n) was.retired (one-retired (next_instant hart b) (sym (ap (λ (x : Acted). x.retired) now.0)));
+      events = λ event.
+          sum_by-append (λ (i : Instant). occurs event (counted_event i.moment.retired (instant_event i))) was.passed (next_instant hart b ∷ [])
+          ∙ ap₂ (λ (m n : ℕ). m + n) (was.events event) (one-event event hart b c (after_steps many (step_state (hart_of a hart) a.memory)) now at)
+          ∙ sym (count-more event many (step_state (hart_of a hart) a.memory));
     }
 
 joined-preceded : (xs : List Instant) (run : Run) (rest : MachineState → Run) → joined (preceded xs run) rest ≡ preceded xs (joined run rest)
@@ -128,13 +157,13 @@ passed-slices hart many s new (slice ∷ rest) p first few =
     ∙ joined-preceded p.passed (run_slice (slice.count - many) hart new) (run_slices rest)
     ∙ ap (λ (h : ℕ). preceded p.passed (joined (run_slice (slice.count - many) h new) (run_slices rest))) (sym of_hart)
 
-carried-many : (hart many most : ℕ) (s new : MachineState) (left less_left skipped : List Slice) (p : Passing hart many s new) → first_or_none left ≡ Some (record { hart = hart; count = count_of_first left }) → many ≤ most → many ≤ count_of_first left
+pub carried-many : (hart many most : ℕ) (s new : MachineState) (left less_left skipped : List Slice) (p : Passing hart many s new) → first_or_none left ≡ Some (record { hart = hart; count = count_of_first left }) → many ≤ most → many ≤ count_of_first left
     → less_left ≡ less many left → run_slices skipped new ≡ run_slices less_left new → Carried hart most p.passed (record { state = s; left = left }) (record { state = new; left = skipped })
 carried-many hart many most s new left less_left skipped p first few within taken run =
     record {
       run = passed-slices hart many s new left p first within ∙ ap (preceded p.passed) (sym (run ∙ ap (λ (l : List Slice). run_slices l new) taken));
       between = wider hart ((hart_of s hart).retired + 1) ((hart_of s hart).retired + many) ((hart_of s hart).retired + most) p.passed (omega arith) p.between;
-      least = omega (arith, p.count);
+      retired = p.count ∙ ap (λ (n : ℕ). (hart_of s hart).retired + n) (sym p.retired);
       few = omega (arith, p.count);
       others = p.others;
       harts = p.harts;
@@ -158,6 +187,10 @@ all-plain hart many asked s new p few stops =
       | inr ended ↦ let none = none-plain (asked - many) hart new ended in omega (arith, parts, none)
     ]
 
+-- all that were done
+pub so-many-plain : (hart many : ℕ) (s new : MachineState) (p : Passing hart many s new) → plain_count (length p.passed) hart s ≡ length p.passed
+so-many-plain hart many s new p = ap (λ (n : ℕ). plain_count n hart s) p.long ∙ all-plain hart many many s new p (omega arith) (inl refl) ∙ sym p.long
+
 long-many : (hart many most : ℕ) (s new : MachineState) (left : List Slice) (p : Passing hart many s new) → 0 < many → many ≤ min most (count_of_first left) → (many ≡ min most (count_of_first left)) ⊎ (retires_plainly hart new ≡ false)
     → length p.passed ≡ pass_length hart most (record { state = s; left = left })
 long-many hart many most s new left p some few stops =
@@ -174,20 +207,22 @@ short-many hart many most s new left p few plain =
     omega (arith, p.long, parts, next, same)
 
 -- one instruction, whatever it did
-at_least : (b : Bool) (n : ℕ) → n ≤ plus_one b n
-at_least true n = omega arith
-at_least false n = omega arith
+one-more-retired : (b : Bool) (n : ℕ) (i : Instant) → i.moment.retired ≡ b → plus_one b n ≡ n + retired_in (i ∷ [])
+one-more-retired true n i is = ap (λ (m : ℕ). n + m) (sym (one-retired i is))
+one-more-retired false n i is =
+    (let e : n ≡ n + 0 = omega arith in e)
+    ∙ ap (λ (m : ℕ). n + m) (sym (sum_by-cons one_if i [] ∙ (let e : cond i.moment.retired 1 0 + 0 ≡ cond i.moment.retired 1 0 = omega arith in e) ∙ ap (λ (b : Bool). cond b 1 0) is))
 
 at_most : (b : Bool) (n : ℕ) → plus_one b n ≤ n + 1
 at_most true n = omega arith
 at_most false n = omega arith
 
-carried-one : (hart most : ℕ) (moment : Moment) (old new : Progress) → WentOn moment old new → CountsRetired moment.hart moment.retired old.state new.state → 0 < most → Carried moment.hart most (next_instant moment.hart old.state ∷ []) old new
+pub carried-one : (hart most : ℕ) (moment : Moment) (old new : Progress) → WentOn moment old new → CountsRetired moment.hart moment.retired old.state new.state → 0 < most → Carried moment.hart most (next_instant moment.hart old.state ∷ []) old new
 carried-one hart most moment old new went counts some =
     record {
       run = went.run;
       between = one;
-      least = omega (arith, counts.own, at_least moment.retired (hart_of old.state moment.hart).retired);
+      retired = counts.own ∙ one-more-retired moment.retired (hart_of old.state moment.hart).retired (next_instant moment.hart old.state) (sym (ap (λ (m : Moment). m.retired) went.told));
       few = omega (arith, counts.own, at_most moment.retired (hart_of old.state moment.hart).retired);
       others = counts.others;
       harts = counts.harts;
@@ -227,16 +262,16 @@ first-count (x ∷ rest) slice first =
 pub first-whole : (left : List Slice) (slice : Slice) → first_or_none left ≡ Some slice → first_or_none left ≡ Some (record { hart = slice.hart; count = count_of_first left })
 first-whole left slice first = first ∙ ap (λ (n : ℕ). Some (record { hart = slice.hart; count = n })) (sym (first-count left slice first))
 
-pub went-hart : (due : Due) (moment : Moment) (old new : Progress) → Some due ≡ first_due (to_come old).instants → WentOn moment old new → moment.hart ≡ due.hart
-went-hart due moment old new told went =
-    let here : Some due ≡ Some (due_of (next_instant moment.hart old.state)) = told ∙ ap (λ (r : Run). first_due r.instants) went.run in
-    let same : due ≡ due_of (next_instant moment.hart old.state) = cc in
-    sym (ap (λ (d : Due). d.hart) same)
+pub went-hart : (upcoming : Upcoming) (moment : Moment) (old new : Progress) → Some upcoming ≡ first_upcoming (to_come old).instants → WentOn moment old new → moment.hart ≡ upcoming.hart
+went-hart upcoming moment old new told went =
+    let here : Some upcoming ≡ Some (upcoming_of (next_instant moment.hart old.state)) = told ∙ ap (λ (r : Run). first_upcoming r.instants) went.run in
+    let same : upcoming ≡ upcoming_of (next_instant moment.hart old.state) = cc in
+    sym (ap (λ (d : Upcoming). d.hart) same)
 
-pub slice-hart : (s : MachineState) (left : List Slice) (due : Due) (slice : Slice) → IsDue s left due → first_or_none left ≡ Some slice → slice.hart ≡ due.hart
-slice-hart s left due slice is first =
-    let here : Some slice ≡ Some (record { hart = due.hart; count = count_of_first left }) = sym first ∙ is.first_is in
-    let same : slice ≡ record { hart = due.hart; count = count_of_first left } = cc in
+pub slice-hart : (s : MachineState) (left : List Slice) (upcoming : Upcoming) (slice : Slice) → IsUpcoming s left upcoming → first_or_none left ≡ Some slice → slice.hart ≡ upcoming.hart
+slice-hart s left upcoming slice is first =
+    let here : Some slice ≡ Some (record { hart = upcoming.hart; count = count_of_first left }) = sym first ∙ is.first_is in
+    let same : slice ≡ record { hart = upcoming.hart; count = count_of_first left } = cc in
     ap (λ (x : Slice). x.hart) same
 
 -- a pass of the first slice, where it ended as it was to

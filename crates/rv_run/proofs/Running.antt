@@ -3,6 +3,8 @@ use Rattle.std.proofs.Common.{◌≡◌, ◌⊎◌, inl, inr, ℕ, zero, suc, �
 use Rattle.std.proofs.lemmas.List.{get_or-set_same, set-set, set-get_or, length-set}
 use Rattle.prof_bytes.specs.declared.fail.Memory.{Memory}
 use Rattle.rv_memory.specs.AddressSpace.{AddressSpace}
+use Rattle.scope_types.specs.declared.event.Event.{Event}
+use Rattle.rv_hart.specs.Events.{extra_event, IsFull}
 use Rattle.rv_hart.specs.Running.{after_steps, Ran}
 use Rattle.rv_hart.specs.Step.{State, step_of, StoresNow}
 use Rattle.rv_hart.specs.declared.outcome.Stepped.{Stepped}
@@ -10,8 +12,8 @@ use Rattle.rv_hart.specs.declared.outcome.Stepped.TheVariants as stepped
 use Rattle.rv_run.specs.State.{HartState, MachineState, hart_of, no_hart, with_hart, is_running, step_state, count_after, stepped_hart}
 use Rattle.rv_run.specs.declared.hart.HartEnd.{HartEnd}
 use Rattle.rv_run.specs.Run.{stepped_machine}
-use Rattle.rv_run.specs.Progress.{is_plain, retires_plainly}
-use Rattle.rv_run.specs.private.Queue.{Passing, StopsBy}
+use Rattle.rv_run.specs.Progress.{is_plain, retires_plainly, IsLast}
+use Rattle.rv_run.specs.private.Queue.{CountedStopsBy, Passing, StopsBy}
 use Rattle.rv_run.proofs.Passing.{Plain, not-plain, passing-first, passing-more, step-plain}
 
 -- a hart that retired so many instructions and has come to this state
@@ -72,7 +74,8 @@ passing-moved hart (suc count) t s within running ran =
     passing-moved hart count before s within running (record { state = refl; retired = λ k few. ran.retired k (omega arith) }) in
     let more : Passing hart (count + 1) s (moved hart (count + 1) t s) =
     passing-more hart count s (moved hart count before s) (moved hart (count + 1) t s) first
-    (moved-plain hart count before t s within ran.state (ran.retired count (omega arith))) within in
+    (moved-plain hart count before t s within ran.state (ran.retired count (omega arith))) within
+    (ap (λ (h : HartState). step_state h before.memory) (moved-same hart count before s within)) in
     subst (λ (n : ℕ). Passing hart n s (moved hart n t s)) (let e : count + 1 ≡ suc count = omega arith in e) more
 
 -- the instructions that a hart did in a run of its own
@@ -110,4 +113,36 @@ pub stops-run : (core : HartState) (memory : AddressSpace) (count most hart : �
     → OnErr last (StoresNow (step_state core memory)) → OnErr last (count < most) → StopsBy last count most hart (with_memory s memory (set s.harts hart core))
 stops-run core memory count most hart s last within all ends stores short =
     stops-state core memory count most hart (with_memory s memory (set s.harts hart core)) last
+    (ap (λ (h : HartState). step_state h memory) (get_or-set_same s.harts hart core no_hart within)) all ends stores short
+
+-- the same of steps that count events
+counted : (count most hart : ℕ) (left : Event → ℕ) (new : MachineState) → (count ≡ most) ⊎ (retires_plainly hart new ≡ false) → (count ≡ most) ⊎ IsLast left hart new
+counted count most hart left new (inl all) = inl all
+counted count most hart left new (inr stops) = inr (inl stops)
+
+counted-full : (count most hart : ℕ) (left : Event → ℕ) (v : State) (new : MachineState) → step_state (hart_of new hart) new.memory ≡ v → (count ≡ most) ⊎ IsFull left (extra_event v) → (count ≡ most) ⊎ IsLast left hart new
+counted-full count most hart left v new here (inl all) = inl all
+counted-full count most hart left v new here (inr full) = inr (inr (subst (λ (u : State). IsFull left (extra_event u)) (sym here) full))
+
+counted-state : (core : HartState) (memory : AddressSpace) (count most hart : ℕ) (left : Event → ℕ) (new : MachineState) (last : Result Stepped Memory) → step_state (hart_of new hart) new.memory ≡ step_state core memory
+    → (last ≡ Ok stepped.Retired → (count ≡ most) ⊎ IsFull left (extra_event (step_state core memory))) → IfOk last (λ how. ¬ (how ≡ stepped.Retired) → (step_state core memory, how) ≡ step_of (step_state core memory))
+    → OnErr last (StoresNow (step_state core memory)) → OnErr last (count < most) → CountedStopsBy last count most left hart new
+counted-state core memory count most hart left new (Ok stepped.Retired) here all ends stores short = counted-full count most hart left (step_state core memory) new here (all refl)
+counted-state core memory count most hart left new (Ok stepped.Ecall) here all ends stores short =
+    let other : stepped.Ecall ≡ stepped.Retired → ⊥ = λ e. absurd cc in
+    counted count most hart left new (ended core memory count most hart new stepped.Ecall here (ends other) other)
+counted-state core memory count most hart left new (Ok stepped.Break) here all ends stores short =
+    let other : stepped.Break ≡ stepped.Retired → ⊥ = λ e. absurd cc in
+    counted count most hart left new (ended core memory count most hart new stepped.Break here (ends other) other)
+counted-state core memory count most hart left new (Ok (stepped.Trap why)) here all ends stores short =
+    let other : stepped.Trap why ≡ stepped.Retired → ⊥ = λ e. absurd cc in
+    counted count most hart left new (ended core memory count most hart new (stepped.Trap why) here (ends other) other)
+counted-state core memory count most hart left new (Err error) here all ends stores short =
+    (short, ap (λ (v : State). is_plain (step_of v).1) here ∙ ap is_plain stores.retires)
+
+pub counted-stops : (core : HartState) (memory : AddressSpace) (count most hart : ℕ) (left : Event → ℕ) (s : MachineState) (last : Result Stepped Memory) → hart < length s.harts
+    → (last ≡ Ok stepped.Retired → (count ≡ most) ⊎ IsFull left (extra_event (step_state core memory))) → IfOk last (λ how. ¬ (how ≡ stepped.Retired) → (step_state core memory, how) ≡ step_of (step_state core memory))
+    → OnErr last (StoresNow (step_state core memory)) → OnErr last (count < most) → CountedStopsBy last count most left hart (with_memory s memory (set s.harts hart core))
+counted-stops core memory count most hart left s last within all ends stores short =
+    counted-state core memory count most hart left (with_memory s memory (set s.harts hart core)) last
     (ap (λ (h : HartState). step_state h memory) (get_or-set_same s.harts hart core no_hart within)) all ends stores short

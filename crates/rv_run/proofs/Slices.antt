@@ -3,13 +3,13 @@ use Rattle.std.proofs.Common.{◌≡◌, ◌≢◌, ◌⊎◌, inl, inr, ℕ, ze
 use Rattle.std.proofs.lemmas.List.Sums.{sum_by-cons, sum_by-append, sum-map}
 use Rattle.std.proofs.lemmas.Bool.Decides.{eqb_tells}
 use Rattle.rv_run.specs.declared.schedule.Slice.{Slice}
-use Rattle.rv_run.specs.declared.machine.Due.{Due}
+use Rattle.rv_run.specs.declared.machine.Upcoming.{Upcoming}
 use Rattle.rv_run.specs.private.Reading.{first_or_none, rest_of}
 use Rattle.rv_run.specs.Schedule.{instructions, slice_count, most_instructions}
 use Rattle.rv_run.specs.State.{MachineState, hart_of, is_running}
 use Rattle.rv_run.specs.Calls.{Acted}
 use Rattle.rv_run.specs.Run.{Run, acts, state_after, next_instant, finished, preceded, joined, run_slice, run_slices}
-use Rattle.rv_run.specs.Progress.{CountsRetired, plus_one, count_of_first, due_of, first_due, WentOn}
+use Rattle.rv_run.specs.Progress.{CountsRetired, plus_one, count_of_first, upcoming_of, first_upcoming, WentOn}
 use Rattle.rv_run.specs.private.Queue.{with_left, less, AreOfHarts, HaveRoom, CanGoOn, FirstCanGoOn}
 
 whole : (slices : List Slice) → with_left (count_of_first slices) slices ≡ slices
@@ -39,33 +39,33 @@ one s hart (suc count) rest some runs =
     ∙ ap (λ (n : ℕ). preceded (next_instant hart s ∷ []) (joined (run_slice n hart (state_after hart s)) (run_slices rest))) (let e : count ≡ suc count - 1 = omega arith in e)
 
 -- what is due of slices of a machine before its next instruction
-pub record IsDue (s : MachineState) (left : List Slice) (due : Due) : Type 0 where
+pub record IsUpcoming (s : MachineState) (left : List Slice) (upcoming : Upcoming) : Type 0 where
   pub some : 0 < count_of_first left
-  pub first_due_is : due ≡ due_of (next_instant due.hart s)
-  pub run : run_slices left s ≡ preceded (next_instant due.hart s ∷ []) (run_slices (less 1 left) (state_after due.hart s))
-  pub first_is : first_or_none left ≡ Some (record { hart = due.hart; count = count_of_first left })
+  pub first_upcoming_is : upcoming ≡ upcoming_of (next_instant upcoming.hart s)
+  pub run : run_slices left s ≡ preceded (next_instant upcoming.hart s ∷ []) (run_slices (less 1 left) (state_after upcoming.hart s))
+  pub first_is : first_or_none left ≡ Some (record { hart = upcoming.hart; count = count_of_first left })
 
 first-run : (s : MachineState) (slice : Slice) (rest : List Slice) → CanGoOn s slice → run_slices (slice ∷ rest) s ≡ preceded (next_instant slice.hart s ∷ []) (run_slices (less 1 (slice ∷ rest)) (state_after slice.hart s))
 unfolding run_slices
 first-run s slice rest next = one s slice.hart slice.count rest next.0 next.1
 
-pub due-first : (s : MachineState) (left : List Slice) (slice : Slice) → FirstCanGoOn s left → first_or_none left ≡ Some slice → Some (due_of (next_instant slice.hart s)) ≡ first_due (run_slices left s).instants
-due-first s [] slice can first = absurd cc
-due-first s (x ∷ rest) slice can first =
+pub upcoming-first : (s : MachineState) (left : List Slice) (slice : Slice) → FirstCanGoOn s left → first_or_none left ≡ Some slice → Some (upcoming_of (next_instant slice.hart s)) ≡ first_upcoming (run_slices left s).instants
+upcoming-first s [] slice can first = absurd cc
+upcoming-first s (x ∷ rest) slice can first =
     let same : x ≡ slice = cc in
-    ap (λ (y : Slice). Some (due_of (next_instant y.hart s))) (sym same)
-    ∙ ap (λ (r : Run). first_due r.instants) (sym (first-run s x rest can))
+    ap (λ (y : Slice). Some (upcoming_of (next_instant y.hart s))) (sym same)
+    ∙ ap (λ (r : Run). first_upcoming r.instants) (sym (first-run s x rest can))
 
-pub due-is : (s : MachineState) (left : List Slice) (due : Due) → FirstCanGoOn s left → Some due ≡ first_due (run_slices left s).instants → IsDue s left due
+pub upcoming-is : (s : MachineState) (left : List Slice) (upcoming : Upcoming) → FirstCanGoOn s left → Some upcoming ≡ first_upcoming (run_slices left s).instants → IsUpcoming s left upcoming
 unfolding run_slices
-due-is s [] due can told = absurd (let e : Some due ≡ None = told in cc)
-due-is s (x ∷ rest) due can told =
-    let here : Some due ≡ Some (due_of (next_instant x.hart s)) = told ∙ ap (λ (r : Run). first_due r.instants) (first-run s x rest can) in
-    let same : due ≡ due_of (next_instant x.hart s) = cc in
-    let hart : x.hart ≡ due.hart = sym (ap (λ (d : Due). d.hart) same) in
+upcoming-is s [] upcoming can told = absurd (let e : Some upcoming ≡ None = told in cc)
+upcoming-is s (x ∷ rest) upcoming can told =
+    let here : Some upcoming ≡ Some (upcoming_of (next_instant x.hart s)) = told ∙ ap (λ (r : Run). first_upcoming r.instants) (first-run s x rest can) in
+    let same : upcoming ≡ upcoming_of (next_instant x.hart s) = cc in
+    let hart : x.hart ≡ upcoming.hart = sym (ap (λ (d : Upcoming). d.hart) same) in
     record {
       some = can.0;
-      first_due_is = same ∙ ap (λ (h : ℕ). due_of (next_instant h s)) hart;
+      first_upcoming_is = same ∙ ap (λ (h : ℕ). upcoming_of (next_instant h s)) hart;
       run = first-run s x rest can ∙ ap (λ (h : ℕ). preceded (next_instant h s ∷ []) (run_slices (less 1 (x ∷ rest)) (state_after h s))) hart;
       first_is = ap (λ (h : ℕ). Some (record { hart = h; count = x.count })) hart;
     }
@@ -154,11 +154,11 @@ pub room-for : (s : MachineState) (left : List Slice) (hart : ℕ) → HaveRoom 
 room-for s left hart room some = omega (arith, room hart, some-left left some)
 
 -- the machine went on by one instruction
-pub went-on : (s new : MachineState) (left less_left settled : List Slice) (due : Due) (is_retired : Bool) → IsDue s left due → record { state = new; retired = is_retired } ≡ acts due.hart s → less_left ≡ less 1 left
-    → run_slices settled new ≡ run_slices less_left new → WentOn (record { hart = due.hart; ordinal = due.ordinal; pc = due.pc; retired = is_retired }) (record { state = s; left = left }) (record { state = new; left = settled })
-went-on s new left less_left settled due is_retired is done taken run =
+pub went-on : (s new : MachineState) (left less_left settled : List Slice) (upcoming : Upcoming) (is_retired : Bool) → IsUpcoming s left upcoming → record { state = new; retired = is_retired } ≡ acts upcoming.hart s → less_left ≡ less 1 left
+    → run_slices settled new ≡ run_slices less_left new → WentOn (record { hart = upcoming.hart; ordinal = upcoming.ordinal; pc = upcoming.pc; retired = is_retired }) (record { state = s; left = left }) (record { state = new; left = settled })
+went-on s new left less_left settled upcoming is_retired is done taken run =
     record {
-      told = ap₂ (λ (d : Due) (b : Bool). record { hart = d.hart; ordinal = d.ordinal; pc = d.pc; retired = b }) is.first_due_is (ap (λ (a : Acted). a.retired) done);
-      run = is.run ∙ ap (preceded (next_instant due.hart s ∷ [])) (sym (run ∙ ap₂ (λ (l : List Slice) (t : MachineState). run_slices l t) taken (ap (λ (a : Acted). a.state) done)));
+      told = ap₂ (λ (d : Upcoming) (b : Bool). record { hart = d.hart; ordinal = d.ordinal; pc = d.pc; retired = b }) is.first_upcoming_is (ap (λ (a : Acted). a.retired) done);
+      run = is.run ∙ ap (preceded (next_instant upcoming.hart s ∷ [])) (sym (run ∙ ap₂ (λ (l : List Slice) (t : MachineState). run_slices l t) taken (ap (λ (a : Acted). a.state) done)));
       state = ap (λ (a : Acted). a.state) done;
     }

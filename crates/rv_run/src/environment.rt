@@ -2,13 +2,14 @@
 //! which they read, write and exit.
 ghost use Rattle.std.specs.Prelude.{◌≡◌, ◌+◌, true, false, ◌<◌, ◌≤◌, ◌^◌, ◌-◌, IfOk, OnErr, length, map};
 ghost use Rattle.std.specs.List.{range_with_len};
+ghost use Rattle.rv_hart.specs.Events.{left_of, SpentBy};
 ghost use Rattle.scope_types.specs.Limits.{most_harts};
-ghost use Rattle.rv_run.specs.State.{first_hart, first_state, hart_of, is_running, hart_step};
+ghost use Rattle.rv_run.specs.State.{first_hart, first_state, hart_of, is_running, hart_step, step_state};
 ghost use Rattle.rv_run.specs.Calls.{negative, reads, writes, calls, completes, grouped, ends_by, ends_all};
 ghost use Rattle.rv_run.specs.Calls.{only_answers};
 ghost use Rattle.rv_run.specs.Run.{acts, stepped_machine};
-ghost use Rattle.rv_run.specs.Progress.{retires_plainly};
-ghost use Rattle.rv_run.specs.private.Queue.{Passing, StopsBy};
+ghost use Rattle.rv_run.specs.Progress.{hart_event, retires_plainly};
+ghost use Rattle.rv_run.specs.private.Queue.{CountedStopsBy, Passing, StopsBy};
 
 use crate::hart::{HartEnd, MachineHart};
 use crate::linux::{
@@ -17,7 +18,8 @@ use crate::linux::{
 use crate::output::{are_readable, copied};
 use elf_image::Image;
 use prof_bytes::Memory;
-use rv_hart::{Space, Stepped};
+use rv_hart::{EventsLeft, Space, Stepped};
+use scope_types::Event;
 use std::alloc::Global;
 use std::marker::Model;
 
@@ -252,6 +254,36 @@ impl<'a> Environment<'a> {
     {
         let core = &mut self.harts[hart as usize];
         core.run(&mut self.space, most)
+    }
+
+    /// The same, which takes each load, store and taken branch off those of its event that are left, and stops before
+    /// an instruction of whose event none is left.
+    pub(crate) fn steps_counting(
+        &mut self,
+        hart: u32,
+        left: &mut EventsLeft,
+        most: u32,
+    ) -> (u32, Result<Stepped, Memory>)
+        requires some { 0 < most }
+        requires hart { hart < length self.old.harts }
+        requires room { (hart_of self.old hart).retired + most < 2 ^ 32 }
+        ensures passed { is_running (hart_of self.old hart) ≡ true → Passing hart result.0 self.old self.new }
+        ensures spent { SpentBy (left_of left.old) (left_of left.new) result.0
+            (step_state (hart_of self.old hart) self.old.memory) }
+        ensures few { result.0 ≤ most }
+        ensures stops { CountedStopsBy result.1 result.0 most (left_of left.new) hart self.new }
+    {
+        let core = &mut self.harts[hart as usize];
+        core.run_counting(&mut self.space, left, most)
+    }
+
+    /// The event other than retired that the hart's next instruction has if it retires.
+    #[inline(always)]
+    pub(crate) fn next_event(&self, hart: u32) -> Option<Event>
+        requires { hart < length self.now.harts }
+        ensures { result ≡ hart_event hart self.now }
+    {
+        self.core(hart).next_event(&self.space)
     }
 
     /// Does the next instruction of the hart, and says whether it retired.

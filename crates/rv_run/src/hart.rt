@@ -1,6 +1,7 @@
 //! One hart of a machine: its pc and registers, how many instructions it retired, and how it ended.
-ghost use Rattle.std.specs.Prelude.{◌≡◌, ◌+◌, ◌<◌, ◌≤◌, ◌^◌, IfOk, Ok, OnErr};
+ghost use Rattle.std.specs.Prelude.{◌≡◌, ◌⊎◌, ◌+◌, ◌<◌, ◌≤◌, ◌^◌, IfOk, Ok, OnErr};
 ghost use Rattle.rv_memory.specs.AddressSpace.{most_stacks};
+ghost use Rattle.rv_hart.specs.Events.{extra_event, left_of, IsFull, SpentBy};
 ghost use Rattle.rv_hart.specs.Running.{Ran};
 ghost use Rattle.rv_hart.specs.Step.{step_of, register, StoresNow};
 ghost use Rattle.rv_run.specs.State.{first_hart, is_running, step_state, stepped_hart};
@@ -8,8 +9,9 @@ ghost use Rattle.rv_run.specs.Calls.{with_answer, with_end, grouped};
 
 use crate::linux::{A0, A1, SP};
 use prof_bytes::Memory;
-use rv_hart::{Cause, Hart, Space, Stepped, run, step};
+use rv_hart::{Cause, EventsLeft, Hart, Space, Stepped, next_event, run, run_counting, step};
 use rv_memory::stack_of;
+use scope_types::Event;
 use std::marker::Model;
 
 /// Whether a hart runs, and else how it ended.
@@ -140,6 +142,41 @@ impl MachineHart {
         let (count, last) = run(&mut self.hart, space, most);
         self.retired += u64::from(count);
         (count, last)
+    }
+
+    /// `run`, which also takes each load, store and taken branch off those of its event that are left, and stops before
+    /// an instruction of whose event none is left.
+    pub(crate) fn run_counting(
+        &mut self,
+        space: &mut Space<'_>,
+        left: &mut EventsLeft,
+        most: u32,
+    ) -> (u32, Result<Stepped, Memory>)
+        requires { self.old.retired + most < 2 ^ 32 }
+        ensures few { result.0 ≤ most }
+        ensures ran { Ran result.0 (step_state self.old space.old) (step_state self.new space.new) }
+        ensures spent { SpentBy (left_of left.old) (left_of left.new) result.0 (step_state self.old space.old) }
+        ensures retired { self.new.retired ≡ self.old.retired + result.0 }
+        ensures end { self.new.end ≡ self.old.end }
+        ensures all { result.1 ≡ Ok Stepped.Retired
+            → (result.0 ≡ most) ⊎ IsFull (left_of left.new) (extra_event (step_state self.new space.new)) }
+        ensures ends { IfOk result.1 (λ how. ¬ (how ≡ Stepped.Retired)
+            → (step_state self.new space.new, how) ≡ step_of (step_state self.new space.new)) }
+        ensures early { IfOk result.1 (λ how. ¬ (how ≡ Stepped.Retired) → result.0 < most) }
+        ensures memory { OnErr result.1 (StoresNow (step_state self.new space.new)) }
+        ensures short { OnErr result.1 (result.0 < most) }
+    {
+        let (count, last) = run_counting(&mut self.hart, space, left, most);
+        self.retired += u64::from(count);
+        (count, last)
+    }
+
+    /// The event other than retired that the next instruction has if it retires.
+    #[inline(always)]
+    pub(crate) fn next_event(&self, space: &Space<'_>) -> Option<Event>
+        ensures { result ≡ extra_event (step_state self.now space.now) }
+    {
+        next_event(&self.hart, space)
     }
 
     /// Completes an environment call with this answer.

@@ -18,5 +18,5 @@ mod slice_queue;
 
 pub use hart::HartEnd;
 pub use laws::{ended_harts_do_nothing, plain_instructions_end_by_themselves, slices_can_be_cut};
-pub use machine::{Due, Machine, Moment};
+pub use machine::{Due, Machine, Moment, Upcoming};
 pub use schedule::{Schedule, ScheduleFault, Slice, read_schedule};

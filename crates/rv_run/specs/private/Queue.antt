@@ -1,12 +1,17 @@
 -- The slices that are left, and instructions of one hart that follow one another.
 use Rattle.std.specs.Prelude.{◌≡◌, ℕ, ◌+◌, ◌-◌, ◌≤◌, ◌<◌, true, List, [], ◌∷◌, All, length, ◌⊎◌, Result, Ok, Err, false}
 use Rattle.prof_bytes.specs.declared.fail.Memory.{Memory}
+use Rattle.scope_types.specs.declared.event.Event.{Event}
 use Rattle.rv_hart.specs.declared.outcome.Stepped.{Stepped}
+use Rattle.rv_hart.specs.declared.counting.EventsLeft.{EventsLeft}
+use Rattle.rv_hart.specs.Events.{event_count, left_of}
 use Rattle.rv_run.specs.declared.schedule.Slice.{Slice}
 use Rattle.rv_run.specs.Schedule.{instructions, most_instructions}
-use Rattle.rv_run.specs.State.{MachineState, hart_of, is_running}
-use Rattle.rv_run.specs.Run.{Instant, preceded, run_slice}
-use Rattle.rv_run.specs.Progress.{Progress, IsBetween, count_of_first, plain_count, retires_plainly}
+use Rattle.rv_run.specs.State.{MachineState, hart_of, is_running, step_state}
+use Rattle.rv_run.specs.declared.machine.Moment.{Moment}
+use Rattle.rv_run.specs.Run.{Instant, next_instant, preceded, run_slice}
+use Rattle.rv_run.specs.Progress.{Progress, IsBetween, IsLast, count_of_first, event_instants, plain_count, retired_in}
+use Rattle.rv_run.specs.Progress.{retires_plainly, CountsRetired, SpentIn, WentOn}
 
 -- slices of which the first has a given number of instructions
 abbrev pub with_left : ℕ → List Slice → List Slice
@@ -52,9 +57,25 @@ pub record Passing (hart many : ℕ) (old new : MachineState) : Type 0 where
   pub harts : length new.harts ≡ length old.harts
   pub running : is_running (hart_of new hart) ≡ true
   pub none : many ≡ 0 → new ≡ old
+  pub retired : retired_in passed ≡ many
+  pub events :
+      (event : Event) → event_instants event passed ≡ event_count event many (step_state (hart_of old hart) old.memory)
 
 -- why steps of a hart stopped: there were as many as were asked for; the next does not retire by itself; or it
 -- does, and found no memory
 abbrev pub StopsBy : Result Stepped Memory → ℕ → ℕ → ℕ → MachineState → Type 0
 StopsBy (Ok last) count most hart s = (count ≡ most) ⊎ (retires_plainly hart s ≡ false)
 StopsBy (Err memory) count most hart s = (count < most) × (retires_plainly hart s ≡ true)
+
+-- the same of steps that count events: there may also be no more of the next one's event
+abbrev pub CountedStopsBy : Result Stepped Memory → ℕ → ℕ → (Event → ℕ) → ℕ → MachineState → Type 0
+CountedStopsBy (Ok last) count most left hart s = (count ≡ most) ⊎ IsLast left hart s
+CountedStopsBy (Err memory) count most left hart s = (count < most) × (retires_plainly hart s ≡ true)
+
+-- one instruction of a hart was carried out, and counted if it retired
+pub record PassedOne (hart : ℕ) (left left_after : EventsLeft) (old new : Progress) : Type 0 where
+  pub moment : Moment
+  pub went : WentOn moment old new
+  pub counts : CountsRetired moment.hart moment.retired old.state new.state
+  pub own : moment.hart ≡ hart
+  pub spent : SpentIn (left_of left) (left_of left_after) (next_instant moment.hart old.state ∷ [])

@@ -1,19 +1,10 @@
-use Rattle.std.proofs.Common.{◌+◌, ℕ, Some, sym, ap, ap₂, ◌∙◌}
-use Rattle.rv_run.specs.State.{HartState}
-use Rattle.rv_run.specs.Run.{Run}
-use Rattle.rv_run.specs.Progress.{Progress, first_due, to_come}
-use Rattle.rv_run.proofs.Slices.{due-first, ended}
+use Rattle.std.proofs.Common.{sym, ap, ◌∙◌}
+use Rattle.rv_run.specs.Progress.{Progress, first_due, first_upcoming, to_come}
+use Rattle.rv_run.proofs.CountedPassing.{due-upcoming}
 use Rattle.rv_run.proofs.machine.Machine.due.Goals as goal
-
-pub returns-in_default-clause-due : goal.returns-in_default-clause-due
-returns-in_default-clause-due c =
-    rw (← c.self.view_is) (sym (ap (λ (r : Run). first_due r.instants) (ended c.self.inside.environment c.self.inside.queue (sym c.first.ensures ∙ c.in_default.is))))
-
-pub returns-in_default-clause-end : goal.returns-in_default-clause-end
-returns-in_default-clause-end c _ = rw (← c.self.view_is) (ended c.self.inside.environment c.self.inside.queue (sym c.first.ensures ∙ c.in_default.is))
 
 pub returns-clause-due : goal.returns-clause-due
 returns-clause-due c =
-    ap₂ (λ (pc ordinal : ℕ). Some (record { hart = c.in-Some.slice.hart; pc = pc; ordinal = ordinal })) (c.pc.ensures ∙ ap (λ (h : HartState). h.pc) c.core-core.ensures) (ap (λ (n : ℕ). n + 1) (c.retired.ensures ∙ ap (λ (h : HartState). h.retired) c.core-core.ensures))
-    ∙ due-first c.self.inside.environment c.self.inside.queue c.in-Some.slice c.self.invariant.next (sym c.first.ensures ∙ c.in-Some.is)
+    due-upcoming c.self.inside.environment c.self.inside.queue c.in-Some.upcoming c.next_event.result c.self.invariant.next
+    (sym c.in-Some.is ∙ c.upcoming.ensures.upcoming ∙ ap (λ (p : Progress). first_upcoming (to_come p).instants) (sym c.self.view_is)) c.next_event.ensures
     ∙ ap (λ (p : Progress). first_due (to_come p).instants) c.self.view_is
