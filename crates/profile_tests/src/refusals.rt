@@ -46,10 +46,10 @@ const CASE: Case = Case {
 
 const USAGE: &str = "\
 usage: hpc profile ELF INPUT SCHEDULE PERIOD WORKERS DB | run ELF INPUT SCHEDULE PERIOD MEASURE \
-| prof ELF MEASURE WORKERS DB | struct ELF | view DB top|callers|flat | drill NUMBER WORKERS\n";
+| prof ELF MEASURE WORKERS DB | struct ELF | view DB top|callers|flat [EVENT] | drill NUMBER WORKERS\n";
 
 /// Words that are no command.
-static INVALID: [(&str, &str); 23] = [
+static INVALID: [(&str, &str); 39] = [
     ("no words", ""),
     ("a view that is none", "view d sideways"),
     ("a run without a file for the measurement", "run p i s 5"),
@@ -65,6 +65,36 @@ static INVALID: [(&str, &str); 23] = [
     ("a period of 0", "profile p i s 0 1 d"),
     ("a period past 32 bits", "profile p i s 4294967296 1 d"),
     ("a period with a zero in front", "profile p i s 05 1 d"),
+    ("an empty period", "profile p i s  1 d"),
+    ("events that descend", "profile p i s loads:1,retired:5 1 d"),
+    ("an event twice", "profile p i s loads:1,loads:5 1 d"),
+    (
+        "a list that ends in a comma",
+        "profile p i s retired:5, 1 d",
+    ),
+    (
+        "a list that begins with a comma",
+        "profile p i s ,retired:5 1 d",
+    ),
+    ("an event without a period", "profile p i s retired: 1 d"),
+    ("an event and no colon", "profile p i s retired 1 d"),
+    ("a period without an event", "profile p i s :5 1 d"),
+    (
+        "an event's period with a zero in front",
+        "profile p i s retired:05 1 d",
+    ),
+    ("an event's period of 0", "profile p i s taken:0 1 d"),
+    (
+        "an event's period past 32 bits",
+        "profile p i s stores:4294967296 1 d",
+    ),
+    ("an event that is none", "profile p i s cycles:5 1 d"),
+    (
+        "a list of five",
+        "profile p i s retired:1,loads:1,stores:1,taken:1,taken:1 1 d",
+    ),
+    ("a list after a number", "profile p i s 5,loads:5 1 d"),
+    ("a list for a measurement", "run p i s retired:5 m"),
     ("no worker", "profile p i s 5 0 d"),
     ("seventeen workers", "profile p i s 5 17 d"),
     ("a word too many", "profile p i s 5 1 d d"),
@@ -72,6 +102,7 @@ static INVALID: [(&str, &str); 23] = [
     ("a table with a name that is none", "view d tops"),
     ("a file without a name", "view  top"),
     ("two tables", "view d top flat"),
+    ("two events", "view d top retired loads"),
     ("a view of no file", "view"),
 ];
 
