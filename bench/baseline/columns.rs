@@ -1,8 +1,8 @@
-//! The values of a tree's nodes, hart by hart, in samples.
+//! The values of a tree's nodes, column by column, in samples. A column is that of a hart and an event.
 
 use crate::tree::{NO_PARENT, PROC, STMT, Tree, each};
 
-/// The nodes that a hart's paths pass through, ascending, with the samples below each (inclusive) and those that
+/// The nodes that a column's paths pass through, ascending, with the samples below each (inclusive) and those that
 /// pass into no further procedure (frame). What is spent at a node itself is the inclusive count of an innermost one.
 #[derive(Default)]
 pub struct Column {
@@ -58,14 +58,15 @@ impl Column {
         }
     }
 
-    /// The column of each hart.
+    /// All columns: hart by hart, and of each hart event by event.
     pub fn all(tree: &Tree, workers: usize) -> Vec<Column> {
-        let mut columns: Vec<(usize, Column)> = (0..tree.ends.len()).map(|hart| (hart, Column::default())).collect();
+        let mut columns: Vec<(usize, Column)> =
+            (0..tree.ends.len()).map(|number| (number, Column::default())).collect();
         let share = columns.len().div_ceil(workers);
         let mut shares: Vec<&mut [(usize, Column)]> = columns.chunks_mut(share).collect();
         each(&mut shares, |share| {
-            for (hart, column) in share.iter_mut() {
-                *column = Column::of(tree, &tree.ends[*hart]);
+            for (number, column) in share.iter_mut() {
+                *column = Column::of(tree, &tree.ends[*number]);
             }
         });
         columns.into_iter().map(|(_, column)| column).collect()

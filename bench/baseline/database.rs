@@ -2,6 +2,7 @@
 
 use crate::columns::Column;
 use crate::dwarf::Line;
+use crate::events::{EventPeriod, is_retired_alone};
 use crate::scopes::ProcId;
 use crate::tree::{INLINE, NO_PARENT, PROC, ROOT, STMT, Tree};
 
@@ -32,17 +33,31 @@ fn put_entry(bytes: &mut Vec<u8>, first: u32, second: u32, value: u64) {
     bytes.extend_from_slice(&words.to_le_bytes());
 }
 
-pub fn bytes(tree: &Tree, columns: &[Column], period: u32) -> Vec<u8> {
+/// The head up to the period, or the events with their periods.
+fn head(events: &[EventPeriod]) -> Vec<u8> {
+    if is_retired_alone(events) {
+        return [b"HPCPROF1".as_slice(), &events[0].period.to_le_bytes()].concat();
+    }
+    let mut bytes = b"HPCPROF2".to_vec();
+    put(&mut bytes, events.len() as u32);
+    for it in events {
+        put(&mut bytes, it.event as u32);
+        put(&mut bytes, it.period);
+    }
+    bytes
+}
+
+pub fn bytes(tree: &Tree, columns: &[Column], events: &[EventPeriod]) -> Vec<u8> {
     let counts: Vec<usize> = columns.iter().map(|column| entries(tree, column)).collect();
     let nodes = tree.scopes.len();
     let names = tree.procs.iter().map(|proc| proc.1.len()).chain(tree.files.iter().map(|file| file.2.len()));
     let listed: usize = names.map(|length| 12 + length).sum();
-    let fixed = 28 + listed + 24 * nodes + 4 * columns.len() + 4 * nodes;
+    let head = head(events);
+    let fixed = head.len() + 16 + listed + 24 * nodes + 4 * columns.len() + 4 * nodes;
     let mut bytes = Vec::with_capacity(fixed + 32 * counts.iter().sum::<usize>());
-    bytes.extend_from_slice(b"HPCPROF1");
-    let lists = [tree.procs.len(), tree.files.len(), nodes].map(|length| length as u32);
-    for word in [period, columns.len() as u32].into_iter().chain(lists) {
-        put(&mut bytes, word);
+    bytes.extend_from_slice(&head);
+    for number in [columns.len() / events.len(), tree.procs.len(), tree.files.len(), nodes] {
+        put(&mut bytes, number as u32);
     }
     for (procedure, name) in &tree.procs {
         let (kind, number) = match procedure {
@@ -56,11 +71,12 @@ pub fn bytes(tree: &Tree, columns: &[Column], period: u32) -> Vec<u8> {
         put_name(&mut bytes, *table, *file, name);
     }
     put_nodes(&mut bytes, tree);
-    for (column, count) in columns.iter().zip(&counts) {
+    let periods: Vec<u64> = events.iter().map(|it| u64::from(it.period)).collect();
+    for (number, (column, count)) in columns.iter().zip(&counts).enumerate() {
         put(&mut bytes, *count as u32);
-        put_profile(&mut bytes, tree, column, period);
+        put_profile(&mut bytes, tree, column, periods[number % periods.len()]);
     }
-    put_contexts(&mut bytes, tree, columns, period);
+    put_contexts(&mut bytes, tree, columns, &periods);
     bytes
 }
 
@@ -102,34 +118,35 @@ fn put_line(bytes: &mut Vec<u8>, tree: &Tree, place: u32) {
     }
 }
 
-fn put_profile(bytes: &mut Vec<u8>, tree: &Tree, column: &Column, period: u32) {
+fn put_profile(bytes: &mut Vec<u8>, tree: &Tree, column: &Column, period: u64) {
     for slot in 0..column.nodes.len() {
         for (kind, count) in (0..).zip(samples(tree, column, slot)) {
             if count > 0 {
-                put_entry(bytes, column.nodes[slot], kind, u64::from(count) * u64::from(period));
+                put_entry(bytes, column.nodes[slot], kind, u64::from(count) * period);
             }
         }
     }
 }
 
-/// For each node its values, by kind and then by hart: each hart's column is read along once.
-fn put_contexts(bytes: &mut Vec<u8>, tree: &Tree, columns: &[Column], period: u32) {
+/// For each node its values, by kind and then by column: each column is read along once.
+fn put_contexts(bytes: &mut Vec<u8>, tree: &Tree, columns: &[Column], periods: &[u64]) {
     let mut cursors = vec![0; columns.len()];
     let mut here = Vec::with_capacity(columns.len());
     for node in 0..tree.scopes.len() as u32 {
         here.clear();
-        for (hart, (column, cursor)) in columns.iter().zip(&mut cursors).enumerate() {
+        for (number, (column, cursor)) in columns.iter().zip(&mut cursors).enumerate() {
             if column.nodes.get(*cursor) == Some(&node) {
-                here.push((hart as u32, samples(tree, column, *cursor)));
+                here.push((number, samples(tree, column, *cursor)));
                 *cursor += 1;
             }
         }
         let count: usize = here.iter().map(|(_, counts)| counts.iter().filter(|count| **count > 0).count()).sum();
         put(bytes, count as u32);
         for kind in [EXCLUSIVE, FRAME, INCLUSIVE] {
-            for (hart, counts) in &here {
+            for (number, counts) in &here {
                 if counts[kind as usize] > 0 {
-                    put_entry(bytes, kind, *hart, u64::from(counts[kind as usize]) * u64::from(period));
+                    let value = u64::from(counts[kind as usize]) * periods[number % periods.len()];
+                    put_entry(bytes, kind, *number as u32, value);
                 }
             }
         }

@@ -5,6 +5,7 @@
 
 use crate::decode::{Inst, Op, decode};
 use crate::elf::{EXECUTE, Program, Segment, WRITE};
+use crate::events::Event;
 use crate::memory::Memory;
 
 #[derive(Clone, Copy)]
@@ -20,6 +21,8 @@ pub struct Hart {
     /// x0 to x31, of which x0 stays 0, and the sink of what is written to x0.
     pub regs: [u32; 33],
     pub retired: u64,
+    /// Of the retired instructions the loads, the stores and the taken branches, where they are counted.
+    others: [u64; 3],
     pub end: Option<End>,
 }
 
@@ -28,7 +31,12 @@ impl Hart {
         let mut regs = [0; 33];
         regs[2] = 0xf000_0000 + hart * 0x10_0000 + 0xf_fff0;
         (regs[10], regs[11]) = (hart, harts);
-        Hart { pc: entry, regs, retired: 0, end: None }
+        Hart { pc: entry, regs, retired: 0, others: [0; 3], end: None }
+    }
+
+    /// How many instructions of an event the hart has retired.
+    pub fn done(&self, event: Event) -> u64 {
+        if event == Event::Retired { self.retired } else { self.others[event as usize - 1] }
     }
 }
 
@@ -49,6 +57,13 @@ impl Window {
 
     fn holds(&self, pc: u32) -> bool {
         pc % 4 == 0 && ((pc.wrapping_sub(self.base) / 4) as usize) < self.count
+    }
+
+    /// The instruction at an address of the window, as far as its word is decoded.
+    fn decoded(&self, pc: u32) -> Inst {
+        // SAFETY: an `Inst` has the size of a u64, and `within` and `ready` alone write these words: each is an `Inst`
+        // or 0, which is one whose operation is `Raw`.
+        unsafe { *self.words[(pc.wrapping_sub(self.base) / 4) as usize..].as_ptr().cast::<Inst>() }
     }
 
     /// Decodes the word at a place. `auipc` becomes `lui`, and a branch's or jump's immediate the distance in bytes
@@ -113,7 +128,7 @@ fn computed(op: Op, a: u32, b: u32, imm: u32) -> u32 {
 
 /// Whether a branch is taken.
 #[inline(always)]
-fn taken(op: Op, a: u32, b: u32) -> bool {
+pub fn taken(op: Op, a: u32, b: u32) -> bool {
     match op {
         Op::Beq => a == b,
         Op::Bne => a != b,
@@ -125,12 +140,14 @@ fn taken(op: Op, a: u32, b: u32) -> bool {
 }
 
 /// Carries out decoded words from the hart's pc on, which lies in the window, until `most` have retired or one is
-/// met that is left to `step`. Returns how many of `most` are left.
+/// met that is left to `step`. Returns how many of `most` are left. Of what retires it counts the loads, the stores and
+/// the taken branches where `COUNTS` says so.
 #[inline(never)]
-fn within(window: &mut Window, memory: &mut Memory, hart: &mut Hart, most: u64) -> u64 {
+fn within<const COUNTS: bool>(window: &mut Window, memory: &mut Memory, hart: &mut Hart, most: u64) -> u64 {
     let (base, first) = (window.base, window.words.as_mut_ptr().cast::<Inst>());
     let x = hart.regs.as_mut_ptr();
     let mut left = most;
+    let [mut loads, mut stores, mut takens] = hart.others;
     // SAFETY: `at` points among the window's `count` words and the last `Raw` one. It starts there; the word after
     // one of the `count` is there, since the last is never passed; `ready` lets through near targets alone, and
     // `jalr` tests its own. The registers that `decode` gives are below 33, the length of `regs`. An `Inst` has the
@@ -154,6 +171,7 @@ fn within(window: &mut Window, memory: &mut Memory, hart: &mut Hart, most: u64) 
                 at = at.add(1);
                 if taken(Op::$op, x!((*inst).rs1), x!((*inst).rs2)) {
                     at = inst.byte_offset((*inst).imm as i32 as isize);
+                    takens += u64::from(COUNTS);
                 }
                 left -= 1;
                 continue;
@@ -162,17 +180,21 @@ fn within(window: &mut Window, memory: &mut Memory, hart: &mut Hart, most: u64) 
         macro_rules! load {
             ($size:literal, $number:ident => $value:expr) => {
                 match memory.load::<$size>(x!((*at).rs1).wrapping_add((*at).imm)) {
-                    Some($number) => x!((*at).rd) = $value,
+                    Some($number) => {
+                        x!((*at).rd) = $value;
+                        loads += u64::from(COUNTS);
+                    }
                     None => break,
                 }
             };
         }
         macro_rules! store {
-            ($size:literal) => {
+            ($size:literal) => {{
                 if !memory.store::<$size>(x!((*at).rs1).wrapping_add((*at).imm), x!((*at).rs2)) {
                     break;
                 }
-            };
+                stores += u64::from(COUNTS);
+            }};
         }
         while left > 0 {
             match (*at).op {
@@ -248,6 +270,7 @@ fn within(window: &mut Window, memory: &mut Memory, hart: &mut Hart, most: u64) 
         }
         hart.pc = pc(at);
     }
+    hart.others = [loads, stores, takens];
     left
 }
 
@@ -271,13 +294,23 @@ impl<'a> Machine<'a> {
         }
     }
 
-    /// Has a hart retire up to `most` instructions, and returns how many it did; fewer where it ends.
-    pub fn pass(&mut self, number: usize, most: u64) -> u64 {
+    /// What the hart's next instruction does, and the registers that it reads, as its word is decoded.
+    pub fn next(&self, number: usize) -> Option<(Op, u8, u8)> {
+        let pc = self.harts[number].pc;
+        let window = self.windows.iter().find(|window| window.holds(pc));
+        let known = window.map(|window| window.decoded(pc)).filter(|inst| !matches!(inst.op, Op::Raw | Op::Far));
+        let inst = known.or_else(|| self.memory.fetch(pc).map(decode))?;
+        Some((inst.op, inst.rs1, inst.rs2))
+    }
+
+    /// Has a hart retire up to `most` instructions, and returns how many it did; fewer where it ends. Where `COUNTS` says
+    /// so it counts their events.
+    pub fn pass<const COUNTS: bool>(&mut self, number: usize, most: u64) -> u64 {
         let mut left = most;
         while left > 0 && self.harts[number].end.is_none() {
             let hart = &mut self.harts[number];
             if let Some(window) = self.windows.iter_mut().find(|window| window.holds(hart.pc)) {
-                left = within(window, &mut self.memory, hart, left);
+                left = within::<COUNTS>(window, &mut self.memory, hart, left);
             }
             if left > 0 && self.step(number) {
                 left -= 1;
@@ -359,6 +392,9 @@ impl<'a> Machine<'a> {
             hart.regs[rd as usize] = value;
         }
         hart.pc = next;
+        if let Some(event) = Event::of(op, next != pc.wrapping_add(4)) {
+            hart.others[event as usize - 1] += 1;
+        }
         true
     }
 

@@ -1,7 +1,8 @@
 //! A plain call-path profiler for RV32IM: what the proved program does, written for speed alone, as its measure.
 //!
 //! `baseline [--workers N] [--phases] [--until PHASE] ELF INPUT SCHEDULE PERIOD DB` runs a static ELF32 program, stores
-//! the database, and prints the report. It takes well-formed files alone.
+//! the database, and prints the report. It takes well-formed files alone. PERIOD is that of retired instructions, or a
+//! list of events with theirs.
 //! `--phases` writes to standard error what each phase took; `--until` ends after one.
 
 mod cfi;
@@ -10,6 +11,7 @@ mod database;
 mod decode;
 mod dwarf;
 mod elf;
+mod events;
 mod forms;
 mod frames;
 mod lines;
@@ -107,7 +109,7 @@ fn schedule(text: &str) -> (u32, Vec<(usize, u64)>) {
     (harts, lines.map(slice).collect())
 }
 
-/// Runs the slices. A sample is taken of the state before each instruction whose number in its hart is a multiple of
+/// Runs the slices where retired is the only event. A sample is taken of the state before each instruction whose number in its hart is a multiple of
 /// the period, and counts if that instruction retires.
 fn run(machine: &mut Machine, unwinder: &mut Unwinder, slices: &[(usize, u64)], period: u64) -> Paths {
     let mut next = vec![period; machine.harts.len()];
@@ -118,22 +120,16 @@ fn run(machine: &mut Machine, unwinder: &mut Unwinder, slices: &[(usize, u64)], 
             let hart = &machine.harts[*number];
             let before = next[*number] - hart.retired - 1;
             if before > 0 {
-                left -= machine.pass(*number, before.min(left));
+                left -= machine.pass::<false>(*number, before.min(left));
                 continue;
             }
             unwinder.walk(hart.pc, &hart.regs, &mut machine.memory, &mut trail);
-            let retired = machine.pass(*number, 1);
+            let retired = machine.pass::<false>(*number, 1);
             left -= retired;
             if retired == 1 {
                 samples += 1;
                 next[*number] += period;
-                let is_new = paths.add(*number, &trail);
-                if samples > MOST_SAMPLES {
-                    refuse("more than 1048576 samples");
-                }
-                if is_new && paths.words.len() > MOST_FRAMES {
-                    refuse("more than 4194304 frames");
-                }
+                events::add(&mut paths, *number, &trail, samples);
             }
         }
     }
@@ -146,25 +142,29 @@ fn main() -> std::io::Result<()> {
     let [elf, input, text, period, database] = words.files.as_slice() else { usage() };
     let (file, input) = (std::fs::read(elf)?, std::fs::read(input)?);
     let (harts, slices) = schedule(&std::fs::read_to_string(text)?);
-    let period: u32 = period.parse().ok().filter(|period| *period > 0).unwrap_or_else(|| usage());
+    let events = events::events_of(period).unwrap_or_else(|| usage());
     let program = elf::Program::read(&file);
     let rows = Rows::read(&program).unwrap_or_else(|fault| refuse(&format!("frames at {}", fault.0)));
     let mut unwinder = Unwinder::of(rows);
     let scopes = Scopes::read(&program);
     let mut machine = Machine::start(&program, harts, &input);
     clock.done("start");
-    let paths = run(&mut machine, &mut unwinder, &slices, u64::from(period));
+    let paths = if events::is_retired_alone(&events) {
+        run(&mut machine, &mut unwinder, &slices, u64::from(events[0].period))
+    } else {
+        events::run(&mut machine, &mut unwinder, &slices, &events)
+    };
     clock.done("run");
-    let tree = Tree::of(&scopes, paths, harts as usize, words.workers);
+    let tree = Tree::of(&scopes, paths, harts as usize * events.len(), words.workers);
     clock.done("tree");
     let columns = Column::all(&tree, words.workers);
     clock.done("values");
-    let bytes = database::bytes(&tree, &columns, period);
+    let bytes = database::bytes(&tree, &columns, &events);
     clock.done("database");
     std::fs::write(database, &bytes)?;
     clock.done("store");
     drop(bytes);
-    table::report(&machine, &tree, &columns, period, std::io::stdout().lock())?;
+    table::report(&machine, &tree, &columns, &events, std::io::stdout().lock())?;
     clock.done("report");
     Ok(())
 }

@@ -1,9 +1,10 @@
-//! The report: the totals, a line for each hart, and the top-down table, written in pieces of 64 KiB.
+//! The report: the totals, a line for each hart, and the top-down table of each event, written in pieces of 64 KiB.
 
 use std::io::{Result, Write};
 
 use crate::columns::Column;
 use crate::dwarf::Line;
+use crate::events::{EventPeriod, is_retired_alone};
 use crate::machine::{End, Machine};
 use crate::tree::{CALL, INLINE, NO_PARENT, PROC, ROOT, Tree};
 
@@ -85,28 +86,46 @@ fn end_of(end: Option<End>) -> String {
     }
 }
 
-/// The samples of each hart are the sum over its paths.
-pub fn report(machine: &Machine, tree: &Tree, columns: &[Column], period: u32, to: impl Write) -> Result<()> {
-    let samples = |hart: usize| tree.ends[hart].iter().map(|(_, count)| u64::from(*count)).sum::<u64>();
-    let harts = machine.harts.len();
-    let total: u64 = (0..harts).map(samples).sum();
+/// The samples of each hart, and of each event, are the sum over its columns' paths.
+pub fn report(
+    machine: &Machine,
+    tree: &Tree,
+    columns: &[Column],
+    events: &[EventPeriod],
+    to: impl Write,
+) -> Result<()> {
+    let samples = |column: usize| tree.ends[column].iter().map(|(_, count)| u64::from(*count)).sum::<u64>();
+    let (harts, count) = (machine.harts.len(), events.len());
+    let all: u64 = (0..columns.len()).map(samples).sum();
     let mut text = Text { to, bytes: machine.output.clone() };
     if machine.output.last().is_some_and(|byte| *byte != b'\n') {
         text.bytes.push(b'\n');
     }
-    let all = total * u64::from(period);
-    writeln!(text.bytes, "harts {harts} period {period} samples {total} total {all}")?;
-    for (number, hart) in machine.harts.iter().enumerate() {
-        let (count, end) = (samples(number), end_of(hart.end));
-        writeln!(text.bytes, "hart {number} retired {} samples {count} end {end}", hart.retired)?;
+    if is_retired_alone(events) {
+        let (period, total) = (events[0].period, all * u64::from(events[0].period));
+        writeln!(text.bytes, "harts {harts} period {period} samples {all} total {total}")?;
+    } else {
+        writeln!(text.bytes, "harts {harts} samples {all}")?;
     }
-    text.bytes.extend_from_slice(b"       inclusive      %            frame  scope\n");
-    rows(&mut text, tree, columns, period, total)?;
+    for (number, hart) in machine.harts.iter().enumerate() {
+        let (found, end) = ((number * count..(number + 1) * count).map(samples).sum::<u64>(), end_of(hart.end));
+        writeln!(text.bytes, "hart {number} retired {} samples {found} end {end}", hart.retired)?;
+    }
+    for (place, it) in events.iter().enumerate() {
+        let found: u64 = (place..columns.len()).step_by(count).map(samples).sum();
+        if !is_retired_alone(events) {
+            let (name, period, total) = (it.event.name(), it.period, found * u64::from(it.period));
+            writeln!(text.bytes, "event {name} period {period} samples {found} total {total}")?;
+        }
+        text.bytes.extend_from_slice(b"       inclusive      %            frame  scope\n");
+        let own: Vec<&Column> = columns.iter().skip(place).step_by(count).collect();
+        rows(&mut text, tree, &own, it.period, found)?;
+    }
     text.flush()
 }
 
-/// The sum of all columns; of one hart its own values.
-fn summed(tree: &Tree, columns: &[Column], values: impl Fn(&Column) -> &[u32]) -> Vec<u32> {
+/// The sum of all columns; of one its own values.
+fn summed(tree: &Tree, columns: &[&Column], values: impl Fn(&Column) -> &[u32]) -> Vec<u32> {
     let mut sums = vec![0; tree.scopes.len()];
     for column in columns {
         for (node, count) in column.nodes.iter().zip(values(column)) {
@@ -116,11 +135,13 @@ fn summed(tree: &Tree, columns: &[Column], values: impl Fn(&Column) -> &[u32]) -
     sums
 }
 
-fn rows<W: Write>(text: &mut Text<W>, tree: &Tree, columns: &[Column], period: u32, total: u64) -> Result<()> {
+/// The rows of the nodes with samples in these columns.
+fn rows<W: Write>(text: &mut Text<W>, tree: &Tree, columns: &[&Column], period: u32, total: u64) -> Result<()> {
     let inclusive = summed(tree, columns, |column| &column.inclusive);
     let frame = summed(tree, columns, |column| &column.frame);
     let mut line: Vec<u32> = Vec::new();
-    for (node, scope) in tree.scopes.iter().enumerate() {
+    let shown = tree.scopes.iter().enumerate().filter(|(node, _)| inclusive[*node] > 0);
+    for (node, scope) in shown {
         while line.last().is_some_and(|last| *last != tree.parents[node]) && tree.parents[node] != NO_PARENT {
             line.pop();
         }

@@ -152,18 +152,18 @@ fn changed_apart(registers: &mut [u32; 32], changes: &[(u8, Rule)], cfa: u32, me
     Ok(())
 }
 
-/// A distinct path of a hart, and how often it was seen.
+/// A distinct path of a column, that of a hart and an event, and how often it was seen.
 #[derive(Clone, Copy)]
 pub struct Path {
     pub first: u32,
     pub count: u32,
     pub frames: u16,
-    pub hart: u8,
+    pub column: u8,
     pub is_whole: bool,
     end: End,
 }
 
-/// The distinct paths of all harts, in the order of their first samples.
+/// The distinct paths of all columns, in the order of their first samples.
 pub struct Paths {
     pub list: Vec<Path>,
     /// The frames of all paths, each path's innermost first.
@@ -180,16 +180,16 @@ impl Paths {
 
     /// Counts a path; answers whether it is new.
     #[inline(always)]
-    pub fn add(&mut self, hart: usize, trail: &Trail) -> bool {
+    pub fn add(&mut self, column: usize, trail: &Trail) -> bool {
         let frames = &trail.frames[..trail.count];
-        let hash = ((trail.hash ^ (hart as u64) << 8 ^ trail.end as u64).wrapping_mul(FACTOR) >> 32) as u32;
+        let hash = ((trail.hash ^ (column as u64) << 8 ^ trail.end as u64).wrapping_mul(FACTOR) >> 32) as u32;
         let mask = self.slots.len() - 1;
         let mut slot = hash as usize & mask;
         while self.slots[slot] != 0 {
             let entry = self.slots[slot];
             if (entry >> 32) as u32 == hash {
                 let path = &mut self.list[entry as u32 as usize - 1];
-                let is_same = path.hart as usize == hart && path.end == trail.end;
+                let is_same = path.column as usize == column && path.end == trail.end;
                 if is_same && self.words[path.first as usize..][..path.frames as usize] == *frames {
                     path.count += 1;
                     return false;
@@ -197,17 +197,17 @@ impl Paths {
             }
             slot = (slot + 1) & mask;
         }
-        self.insert(hart, trail, hash, slot);
+        self.insert(column, trail, hash, slot);
         true
     }
 
     #[cold]
-    fn insert(&mut self, hart: usize, trail: &Trail, hash: u32, slot: usize) {
+    fn insert(&mut self, column: usize, trail: &Trail, hash: u32, slot: usize) {
         let path = Path {
             first: self.words.len() as u32,
             count: 1,
             frames: trail.count as u16,
-            hart: hart as u8,
+            column: column as u8,
             is_whole: trail.end == End::Whole,
             end: trail.end,
         };
