@@ -124,6 +124,7 @@ pub fn run(machine: &mut Machine, unwinder: &mut Unwinder, slices: &[(usize, u64
 }
 
 /// Counts a sample's path in its column.
+#[inline(always)]
 pub fn add(paths: &mut Paths, column: usize, trail: &Trail, samples: u64) {
     let is_new = paths.add(column, trail);
     if samples > MOST_SAMPLES {

@@ -147,7 +147,7 @@ fn within<const COUNTS: bool>(window: &mut Window, memory: &mut Memory, hart: &m
     let (base, first) = (window.base, window.words.as_mut_ptr().cast::<Inst>());
     let x = hart.regs.as_mut_ptr();
     let mut left = most;
-    let [mut loads, mut stores, mut takens] = hart.others;
+    let [mut loads, mut stores, mut takens] = if COUNTS { hart.others } else { [0; 3] };
     // SAFETY: `at` points among the window's `count` words and the last `Raw` one. It starts there; the word after
     // one of the `count` is there, since the last is never passed; `ready` lets through near targets alone, and
     // `jalr` tests its own. The registers that `decode` gives are below 33, the length of `regs`. An `Inst` has the
@@ -270,7 +270,9 @@ fn within<const COUNTS: bool>(window: &mut Window, memory: &mut Memory, hart: &m
         }
         hart.pc = pc(at);
     }
-    hart.others = [loads, stores, takens];
+    if COUNTS {
+        hart.others = [loads, stores, takens];
+    }
     left
 }
 
