@@ -57,32 +57,33 @@ pub fn is_retired_alone(events: &[EventPeriod]) -> bool {
     matches!(events, [EventPeriod { event: Event::Retired, .. }])
 }
 
-/// Which instructions of a hart are sampled next: for each event the ordinal of the next one.
-struct Dues<'e> {
-    events: &'e [EventPeriod],
-    next: Vec<u64>,
-}
+/// By the number of an event the ordinal of a hart's next sample of it; one that isn't sampled has none.
+#[derive(Clone)]
+struct Dues([u64; 4]);
 
-impl Dues<'_> {
-    fn of(events: &[EventPeriod]) -> Dues<'_> {
-        Dues { events, next: events.iter().map(|it| u64::from(it.period)).collect() }
+impl Dues {
+    fn of(events: &[EventPeriod]) -> Dues {
+        let mut next = [u64::MAX; 4];
+        events.iter().for_each(|it| next[it.event as usize] = u64::from(it.period));
+        Dues(next)
     }
 
-    /// How many instructions the hart may carry out without a sample, whatever they are.
-    fn free(&self, machine: &Machine, hart: usize) -> u64 {
-        let done = |event| machine.harts[hart].done(event);
-        let all = self.events.iter().zip(&self.next).map(|(it, next)| next - done(it.event) - 1);
-        all.min().expect("an event")
+    /// How many instructions a hart that has retired so many of each event may carry out without a sample.
+    #[inline(always)]
+    fn free(&self, done: &[u64; 4]) -> u64 {
+        let left = |event: usize| self.0[event] - done[event] - 1;
+        left(0).min(left(1)).min(left(2)).min(left(3))
     }
 
-    /// Whether the hart's next instruction is the event's that is sampled next, if it retires.
-    fn is_due(&self, machine: &Machine, hart: usize, extra: Option<Event>, place: usize) -> bool {
-        let event = self.events[place].event;
-        (event == Event::Retired || extra == Some(event)) && machine.harts[hart].done(event) + 1 == self.next[place]
+    /// Whether an instruction of an event is sampled if it retires next.
+    #[inline(always)]
+    fn has(&self, done: &[u64; 4], event: Event) -> bool {
+        self.0[event as usize] == done[event as usize] + 1
     }
 }
 
 /// The event that the hart's next instruction has beside retired, if it retires.
+#[inline(always)]
 fn extra(machine: &Machine, number: usize) -> Option<Event> {
     let (op, rs1, rs2) = machine.next(number)?;
     let regs = &machine.harts[number].regs;
@@ -93,29 +94,31 @@ fn extra(machine: &Machine, number: usize) -> Option<Event> {
 /// its hart's is a multiple of the period, and counts if that instruction retires. A pass of as many instructions as
 /// the event lacks that lacks least goes past no sample.
 pub fn run(machine: &mut Machine, unwinder: &mut Unwinder, slices: &[(usize, u64)], events: &[EventPeriod]) -> Paths {
-    let mut dues: Vec<Dues> = machine.harts.iter().map(|_| Dues::of(events)).collect();
+    let mut all_dues = vec![Dues::of(events); machine.harts.len()];
+    let place = |event| events.iter().position(|it| it.event == event).unwrap_or(0);
+    let places = [Event::Retired, Event::Loads, Event::Stores, Event::Taken].map(place);
     let (mut paths, mut trail, mut samples) = (Paths::new(), Trail::new(), 0);
     for (number, count) in slices {
-        let mut left = *count;
+        let (mut left, dues) = (*count, &mut all_dues[*number]);
         while left > 0 && machine.harts[*number].end.is_none() {
-            let free = dues[*number].free(machine, *number);
+            let done = &machine.harts[*number].done;
+            let free = dues.free(done);
             if free > 0 {
                 left -= machine.pass::<true>(*number, free.min(left));
                 continue;
             }
-            let found = extra(machine, *number);
-            let places = 0..events.len();
-            let due = places.filter(|place| dues[*number].is_due(machine, *number, found, *place));
-            let due = due.fold(0, |bits, place| bits | 1 << place);
+            let is_retired = dues.has(done, Event::Retired);
+            let extra = extra(machine, *number).filter(|event| dues.has(done, *event));
             let hart = &machine.harts[*number];
-            if due != 0 {
+            if is_retired || extra.is_some() {
                 unwinder.walk(hart.pc, &hart.regs, &mut machine.memory, &mut trail);
             }
             let retired = machine.pass::<true>(*number, 1);
             left -= retired;
-            for place in (0..events.len()).filter(|place| retired == 1 && due >> place & 1 == 1) {
+            for event in is_retired.then_some(Event::Retired).into_iter().chain(extra).filter(|_| retired == 1) {
+                let place = places[event as usize];
                 samples += 1;
-                dues[*number].next[place] += u64::from(events[place].period);
+                dues.0[event as usize] += u64::from(events[place].period);
                 add(&mut paths, *number * events.len() + place, &trail, samples);
             }
         }

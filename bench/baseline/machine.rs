@@ -20,9 +20,9 @@ pub struct Hart {
     pub pc: u32,
     /// x0 to x31, of which x0 stays 0, and the sink of what is written to x0.
     pub regs: [u32; 33],
-    pub retired: u64,
-    /// Of the retired instructions the loads, the stores and the taken branches, where they are counted.
-    others: [u64; 3],
+    /// The retired instructions, by the number of an event: all, and where they are counted the loads, the stores and the
+    /// taken branches.
+    pub done: [u64; 4],
     pub end: Option<End>,
 }
 
@@ -31,12 +31,7 @@ impl Hart {
         let mut regs = [0; 33];
         regs[2] = 0xf000_0000 + hart * 0x10_0000 + 0xf_fff0;
         (regs[10], regs[11]) = (hart, harts);
-        Hart { pc: entry, regs, retired: 0, others: [0; 3], end: None }
-    }
-
-    /// How many instructions of an event the hart has retired.
-    pub fn done(&self, event: Event) -> u64 {
-        if event == Event::Retired { self.retired } else { self.others[event as usize - 1] }
+        Hart { pc: entry, regs, done: [0; 4], end: None }
     }
 }
 
@@ -147,7 +142,7 @@ fn within<const COUNTS: bool>(window: &mut Window, memory: &mut Memory, hart: &m
     let (base, first) = (window.base, window.words.as_mut_ptr().cast::<Inst>());
     let x = hart.regs.as_mut_ptr();
     let mut left = most;
-    let [mut loads, mut stores, mut takens] = if COUNTS { hart.others } else { [0; 3] };
+    let [_, mut loads, mut stores, mut takens] = if COUNTS { hart.done } else { [0; 4] };
     // SAFETY: `at` points among the window's `count` words and the last `Raw` one. It starts there; the word after
     // one of the `count` is there, since the last is never passed; `ready` lets through near targets alone, and
     // `jalr` tests its own. The registers that `decode` gives are below 33, the length of `regs`. An `Inst` has the
@@ -271,7 +266,7 @@ fn within<const COUNTS: bool>(window: &mut Window, memory: &mut Memory, hart: &m
         hart.pc = pc(at);
     }
     if COUNTS {
-        hart.others = [loads, stores, takens];
+        hart.done[1..].copy_from_slice(&[loads, stores, takens]);
     }
     left
 }
@@ -318,7 +313,7 @@ impl<'a> Machine<'a> {
                 left -= 1;
             }
         }
-        self.harts[number].retired += most - left;
+        self.harts[number].done[0] += most - left;
         most - left
     }
 
@@ -395,7 +390,7 @@ impl<'a> Machine<'a> {
         }
         hart.pc = next;
         if let Some(event) = Event::of(op, next != pc.wrapping_add(4)) {
-            hart.others[event as usize - 1] += 1;
+            hart.done[event as usize] += 1;
         }
         true
     }

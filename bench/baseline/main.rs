@@ -118,7 +118,7 @@ fn run(machine: &mut Machine, unwinder: &mut Unwinder, slices: &[(usize, u64)], 
         let mut left = *count;
         while left > 0 && machine.harts[*number].end.is_none() {
             let hart = &machine.harts[*number];
-            let before = next[*number] - hart.retired - 1;
+            let before = next[*number] - hart.done[0] - 1;
             if before > 0 {
                 left -= machine.pass::<false>(*number, before.min(left));
                 continue;

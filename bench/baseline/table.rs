@@ -109,7 +109,7 @@ pub fn report(
     }
     for (number, hart) in machine.harts.iter().enumerate() {
         let (found, end) = ((number * count..(number + 1) * count).map(samples).sum::<u64>(), end_of(hart.end));
-        writeln!(text.bytes, "hart {number} retired {} samples {found} end {end}", hart.retired)?;
+        writeln!(text.bytes, "hart {number} retired {} samples {found} end {end}", hart.done[0])?;
     }
     for (place, it) in events.iter().enumerate() {
         let found: u64 = (place..columns.len()).step_by(count).map(samples).sum();
