@@ -49,7 +49,7 @@ class Counts:
 def look_at_large(window, folder):
     nodes = databases.large(NODES, HARTS)
     database, page = folder / "nodes.db", folder / "nodes.html"
-    database.write_bytes(databases.written(nodes, PERIOD, HARTS))
+    database.write_bytes(databases.written(nodes, databases.retired_every(PERIOD), HARTS))
     exported(database, "html", "-o", page)
     counts = Counts(nodes)
     window.open(page)

@@ -5,13 +5,16 @@ A path is a tuple of scopes, outermost first:
     ("root", KIND)  ("proc", PROC)  ("inline", PROC, LINE)  ("call", LINE)  ("stmt", LINE)
 
 with a PROC (kind, number, name) and a LINE either an address or (table, file, file's name, line). A profile is a list
-of (hart, number of samples, path).
+of (hart, number of samples, path); one of several events a list of (column, number of samples, path). Events are a list
+of (number, period), and the column of a hart and an event is the hart times their number, and the event's place in the
+list.
 """
 import itertools
 import random
 import struct
 from collections import defaultdict
 
+EVENTS = ("retired", "loads", "stores", "taken")
 SCOPES = ("root", "proc", "inline", "call", "stmt")
 ROOTS = ("<thread root>", "<partial call paths>")
 NAMELESS = (2, 0, b"<unknown procedure>")
@@ -32,6 +35,8 @@ def order(scope):
 
 
 class Node:
+    """`exclusive` has by column the samples that end there."""
+
     def __init__(self, scope, parent):
         self.scope, self.parent, self.children = scope, parent, {}
         self.exclusive, self.number = {}, None
@@ -43,18 +48,18 @@ def child(node, scope):
     return node.children[scope]
 
 
-def count_at(node, hart, count):
-    node.exclusive[hart] = node.exclusive.get(hart, 0) + count
+def count_at(node, column, count):
+    node.exclusive[column] = node.exclusive.get(column, 0) + count
 
 
 def tree(profile):
     """The nodes of a profile in preorder."""
     top = Node(None, None)
-    for hart, count, path in profile:
+    for column, count, path in profile:
         node = top
         for scope in path:
             node = child(node, scope)
-        count_at(node, hart, count)
+        count_at(node, column, count)
     return preorder(top)
 
 
@@ -70,11 +75,11 @@ def preorder(top):
     return nodes
 
 
-def values(nodes, harts):
-    """For each hart the exclusive, frame and inclusive numbers of samples of each node."""
+def values(nodes, columns):
+    """For each column the exclusive, frame and inclusive numbers of samples of each node."""
     found = []
-    for hart in range(harts):
-        exclusive = [node.exclusive.get(hart, 0) for node in nodes]
+    for column in range(columns):
+        exclusive = [node.exclusive.get(column, 0) for node in nodes]
         frame, inclusive = exclusive[:], exclusive[:]
         for node in reversed(nodes):
             if node.parent.number is not None:
@@ -87,16 +92,33 @@ def values(nodes, harts):
 
 def database(profile, period, harts):
     """The bytes of version 1."""
-    return written(tree(profile), period, harts)
+    return written(tree(profile), retired_every(period), harts)
 
 
-def written(nodes, period, harts):
+def events_database(profile, events, harts):
+    """The bytes of version 2, or of version 1 where retired is the only event."""
+    return written(tree(profile), events, harts)
+
+
+def retired_every(period):
+    return [(0, period)]
+
+
+def head(events):
+    """The bytes before the number of harts."""
+    if events[:-1] == [] and events[0][0] == 0:
+        return struct.pack("<8sI", b"HPCPROF1", events[0][1])
+    words = [word for event in events for word in event]
+    return struct.pack(f"<8sI{len(words)}I", b"HPCPROF2", len(events), *words)
+
+
+def written(nodes, events, harts):
     procedures = sorted({node.scope[1] for node in nodes if node.scope[0] in ("proc", "inline")})
     lines = [node.scope[-1] for node in nodes if node.scope[0] in ("inline", "call", "stmt")]
     files = sorted({line[:3] for line in lines if not isinstance(line, int)})
     place_of = {entry: place for place, entry in enumerate(procedures)}
     file_of = {entry: place for place, entry in enumerate(files)}
-    parts = [struct.pack("<8s5I", b"HPCPROF1", period, harts, len(procedures), len(files), len(nodes))]
+    parts = [head(events), struct.pack("<4I", harts, len(procedures), len(files), len(nodes))]
     for entry in procedures + files:
         parts.append(struct.pack("<3I", *entry[:2], len(entry[2])) + entry[2])
     for node in nodes:
@@ -110,8 +132,9 @@ def written(nodes, period, harts):
             line = node.scope[-1]
             words += [1, line] if isinstance(line, int) else [0, file_of[line[:3]], line[3]]
         parts.append(struct.pack(f"<{len(words)}I", *words))
-    planes = values(nodes, harts)
-    for kinds in planes:
+    columns = harts * len(events)
+    planes, periods = values(nodes, columns), [period for _, period in events] * harts
+    for kinds, period in zip(planes, periods):
         entries = [
             struct.pack("<IIQ", node, kind, kinds[kind][node] * period)
             for node, kind in itertools.product(range(len(nodes)), range(3))
@@ -120,15 +143,21 @@ def written(nodes, period, harts):
         parts += [struct.pack("<I", len(entries)), *entries]
     for node in range(len(nodes)):
         entries = [
-            struct.pack("<IIQ", kind, hart, planes[hart][kind][node] * period)
-            for kind, hart in itertools.product(range(3), range(harts))
-            if planes[hart][kind][node]
+            struct.pack("<IIQ", kind, column, planes[column][kind][node] * periods[column])
+            for kind, column in itertools.product(range(3), range(columns))
+            if planes[column][kind][node]
         ]
         parts += [struct.pack("<I", len(entries)), *entries]
     return b"".join(parts)
 
 
-# ---- the tables, as docs/FORMATS.md and HPCToolkit's manual tell them
+def of_event(profile, events, place):
+    """The profile of the event at a place: its columns are harts."""
+    count = len(events)
+    return [(column // count, samples, path) for column, samples, path in profile if column % count == place]
+
+
+# ---- the tables of one event, as docs/FORMATS.md and HPCToolkit's manual tell them
 
 
 def place(line):
@@ -359,10 +388,33 @@ def large(most, harts, seed=1):
     return preorder(top)
 
 
+def small_events():
+    """Two harts and two events: samples of both at one statement, of one at another, and a column without samples."""
+    base = ("root", 0), ("proc", NAMELESS)
+    return [(0, 1, (*base, ("stmt", 0x10010))), (1, 2, (*base, ("stmt", 0x10010))), (3, 1, (*base, ("stmt", 0x10024)))]
+
+
+def recursive_events():
+    """The recursion with three events: each third of the samples is another one's."""
+    return [(3 * hart + place % 3, count, path) for place, (hart, count, path) in enumerate(recursive())]
+
+
 PROFILES = {  # name: profile, period, harts
     "straight": (straight(), 5, 1),
     "inlined": (inlined(), 2, 1),
     "recursive": (recursive(), 97, 2),
     "deep": (deep(600), 11, 2),
     "empty": ([], 21, 1),
+}
+
+EVENT_PROFILES = {  # name: profile, events, harts
+    "small events": (small_events(), [(0, 5), (3, 2)], 2),
+    "recursive events": (recursive_events(), [(1, 97), (2, 1), (3, 4294967295)], 2),
+    "stores alone": (inlined(), [(2, 3)], 1),
+    "all events, none sampled": ([], [(0, 21), (1, 22), (2, 23), (3, 24)], 16),
+    "all events of 16 harts": (
+        [(column, 1 + column % 5, path) for column in range(64) for _, _, path in inlined()[column % 3 :: 4]],
+        [(0, 7), (1, 6), (2, 5), (3, 4)],
+        16,
+    ),
 }
