@@ -32,17 +32,18 @@ def folded_lines(text):
     return {stack: int(cost) for stack, _, cost in (line.rpartition(" ") for line in text.decode().splitlines())}
 
 
-def look_at_folded(name, database, profile, period, harts):
+def look_at_folded(name, database, profile, period, harts, *words):
+    """The stacks of a profile, which is the one that the words choose."""
     wanted = defaultdict(int)
     for _, count, path in profile:
         wanted[stack_of(path)] += count * period
-    found = exported(database, "folded")
+    found = exported(database, "folded", *words)
     same(f"{name}: folded stacks", folded_lines(found), dict(wanted))
     same(f"{name}: a line for each stack", len(found.splitlines()), len(wanted))
-    with_places = folded_lines(exported(database, "folded", "--places"))
+    with_places = folded_lines(exported(database, "folded", "--places", *words))
     same(f"{name}: folded stacks with places", sum(with_places.values()), sum(wanted.values()))
     for hart in range(harts):
-        found = folded_lines(exported(database, "folded", "--hart", str(hart)))
+        found = folded_lines(exported(database, "folded", "--hart", str(hart), *words))
         same(f"{name}: hart {hart}, folded", sum(found.values()), period * sum(c for h, c, _ in profile if h == hart))
 
 
@@ -129,8 +130,9 @@ return profiles;
 """
 
 
-def look_at_speedscope(window, name, database, profile, period, harts):
-    written = exported(database, "speedscope").decode()
+def look_at_speedscope(window, name, database, profile, period, harts, *words):
+    """Looks at it, and gives the names of its profiles."""
+    written = exported(database, "speedscope", *words).decode()
     text = json.loads(written)
     same(f"{name}: speedscope's schema", breaks(SCHEMA, text), None)
     same(f"{name}: speedscope's profiles", len(text["profiles"]), harts)
@@ -147,14 +149,21 @@ def look_at_speedscope(window, name, database, profile, period, harts):
         same(f"{name}: speedscope's stacks, hart {hart}", plain, dict(wanted))
     if window:
         same(f"{name}: speedscope's profiles in a browser", window.run(IMPORT % written), costs)
+    return [profile["name"] for profile in text["profiles"]]
 
 
 # ---- callgrind
 
 
-def read_callgrind(text):
-    """Each function's own cost, its calls' inclusive cost, the file of each of its costs, and the totals."""
+def callgrind_events(text):
+    return re.search(r"^events: (.*)$", text.decode(), re.M)[1].split()
+
+
+def read_callgrind(text, place=0):
+    """Each function's own cost, its calls' inclusive cost, the file of each of its costs, and the totals, of the event at
+    this place in the list of events."""
     names, own, calls, files, totals = {}, defaultdict(int), defaultdict(int), defaultdict(set), {}
+    from_end = place - len(callgrind_events(text))
     function = file = called = None
     for line in text.decode().splitlines():
         name = re.match(r"(fl|fi|fe|fn|cfi|cfn)=\((\d+)\)(?: (.*))?$", line)
@@ -170,7 +179,7 @@ def read_callgrind(text):
             elif name[1] != "cfi":
                 file = known
         elif re.match(r"(0x|\d)", line):
-            cost = int(line.split()[-1])
+            cost = int(line.split()[from_end])
             if called is None:
                 own[function] += cost
                 files[function].add(file)
@@ -178,11 +187,11 @@ def read_callgrind(text):
                 calls[function, called] += cost
             called = None
         elif re.match(r"(summary|totals): ", line):
-            totals[line.split(":")[0]] = int(line.split()[1])
+            totals[line.split(":")[0]] = int(line.split()[from_end])
     return {name: cost for name, cost in own.items() if cost}, dict(calls), files, totals
 
 
-def look_at_callgrind(name, database, profile, period):
+def look_at_callgrind(name, database, profile, period, *words, place=0):
     frame, calls = defaultdict(int), defaultdict(int)
     for _, count, path in profile:
         chain = [scope[1][2].decode() if scope[0] == "proc" else databases.ROOTS[scope[1]] for scope in path
@@ -193,23 +202,25 @@ def look_at_callgrind(name, database, profile, period):
         for a, b, _ in arcs:
             calls[printed(a), printed(b)] += count * period
     total = sum(count for _, count, _ in profile) * period
-    own, found, _, totals = read_callgrind(exported(database, "callgrind"))
+    own, found, _, totals = read_callgrind(exported(database, "callgrind", *words), place)
     same(f"{name}: callgrind, own costs", own, dict(frame))
-    same(f"{name}: callgrind, calls", found, dict(calls))
+    same(f"{name}: callgrind, calls", {arc: cost for arc, cost in found.items() if cost}, dict(calls))
     same(f"{name}: callgrind, totals", totals, {"summary": total, "totals": total})
     if total:
-        look_at_annotated(name, database, frame)
+        look_at_annotated(name, database, frame, *words, place=place)
 
 
-def look_at_annotated(name, database, frame):
+def look_at_annotated(name, database, frame, *words, place=0):
     """The same by callgrind_annotate, which has a row for each procedure and file."""
     if not shutil.which("callgrind_annotate"):
         return
     with tempfile.NamedTemporaryFile(suffix=".callgrind") as file:
-        file.write(exported(database, "callgrind"))
+        written = exported(database, "callgrind", *words)
+        file.write(written)
         file.flush()
-        words = ["callgrind_annotate", "--threshold=100", "--auto=no", file.name]
-        done = subprocess.run(words, capture_output=True)
+        event = callgrind_events(written)[place]
+        annotate = ["callgrind_annotate", "--threshold=100", "--auto=no", f"--show={event}", f"--sort={event}", file.name]
+        done = subprocess.run(annotate, capture_output=True)
     found = defaultdict(int)
     text = done.stdout.decode(errors="replace")
     for cost, row in re.findall(r"^ *([\d,]+) \([ \d.]+%\)  (.*?)(?: \[\])?$", text, re.M):

@@ -108,7 +108,7 @@ def look_at_live(window):
     window.press("ArrowDown")
     window.run("view.setSearch('evaluate');")
     said = window.run("return [...document.querySelectorAll('[aria-live]')].map(element => element.textContent);")
-    wanted = [r"\d+ matches · \d+\.\d %", r".+, level \d+, \d+\.\d percent, [\d,]+ instructions"]
+    wanted = [r"\d+ matches · \d+\.\d %", r".+, level \d+, \d+\.\d percent, [\d,]+ retired instructions"]
     for text in wanted:
         if not any(re.fullmatch(text, found) for found in said):
             complain(f"nothing like {text} is said: {said}")

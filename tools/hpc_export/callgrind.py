@@ -4,7 +4,8 @@ A procedure's own cost is its frame cost: what is spent in it, inlined procedure
 stands at the lines or addresses of the samples. What an inlined procedure or another file has of it stands behind `fi`,
 and the procedure's own file goes on behind `fe`. A call has the inclusive cost of what it leads to, each sample once
 also where the path has the call several times (recursion). `calls=` counts samples, since calls aren't counted.
-`<thread root>` and `<partial call paths>` are procedures that call the outermost ones.
+`<thread root>` and `<partial call paths>` are procedures that call the outermost ones. Where several events are sampled
+each cost has a number for each.
 """
 import operator
 from itertools import compress
@@ -14,23 +15,30 @@ from .contexts import ROOT_NAMES, Labels, encoded, ends
 from .database import CALL, INLINE, PROC, ROOT, STMT
 
 UNKNOWN = "???"
+# The events, by their numbers.
+NAMES = ("Instructions", "Loads", "Stores", "TakenBranches")
 
 
 def write(out, database, options):
-    profile = _Profile(database, options.shown)
+    profile = _Profile(database, options.every)
     has_address, has_row = profile.positions()
     columns = " ".join(name for name, has in (("instr", has_address), ("line", has_row or not has_address)) if has)
+    events = [shown.event(database) for shown in options.every]
     head = (
         "# callgrind format\nversion: 1\ncreator: hpc-export\n"
-        f"cmd: {options.title}, sampled every {database.period} retired instructions\n"
-        f"positions: {columns}\nevents: Instructions\n"
+        f"cmd: {options.title}, sampled every {_listed([f'{event.period} {event.unit}' for event in events])}\n"
+        f"positions: {columns}\nevents: {' '.join(NAMES[event.number] for event in events)}\n"
         f"summary: {profile.total}\n"
     )
     out.write(encoded(head))
     writer = _Writer(profile, has_address, has_row or not has_address)
     for function in sorted(profile.functions):
         out.write(encoded("".join(writer.function(function))))
-    out.write(b"\ntotals: %d\n" % profile.total)
+    out.write(encoded(f"\ntotals: {profile.total}\n"))
+
+
+def _listed(words):
+    return " and ".join([", ".join(words[:-1])] * (len(words) > 1) + words[-1:])
 
 
 def _marks(*scopes):
@@ -49,23 +57,27 @@ class _Profile:
     """The costs by function. A function is a procedure's place in the list, or -1 - kind for a root. A block of a
     function is a file's place, and _INLINED more for what is inlined."""
 
-    def __init__(self, database, shown):
+    def __init__(self, database, every):
         self.nodes, self.labels = database.nodes, Labels(database)
-        self.own = shown.exclusive(database)
-        self.all = shown.inclusive(database)
-        self.period = database.period
-        self.total = sum(self.own)
         # The scope above each node, where there is one.
         self.above = bytes(picked(self.nodes.scope, self.nodes.parent))
         self.function_of = self._functions()
         self.files = self._files()
         roots = compress(self.nodes.operand, self.nodes.scope.translate(_IS_ROOT))
-        self.functions = {-1 - kind for kind in roots} | {
-            *compress(self.nodes.operand, map(operator.and_, self.nodes.scope.translate(_IS_PROC), map(bool, self.all)))
-        }
-        # Function, block, line: cost. Function, block, line, called function: cost.
-        self.costs = self._gathered(self._costs())
-        self.calls = self._gathered(self._calls())
+        self.functions = {-1 - kind for kind in roots}
+        all_costs = [shown.inclusive(database) for shown in every]
+        for all_ in all_costs:
+            has_cost = map(operator.and_, self.nodes.scope.translate(_IS_PROC), map(bool, all_))
+            self.functions |= {*compress(self.nodes.operand, has_cost)}
+        own_costs = [shown.exclusive(database) for shown in every]
+        self.periods = [shown.event(database).period for shown in every]
+        self.total = _Cost.of([sum(own) for own in own_costs])
+        # Function, block, line: cost. Function, block, line, called function: cost. A cost is a number, or a _Cost.
+        self.costs = self._joined([self._gathered(self._costs(own)) for own in own_costs])
+        self.calls = self._joined([self._gathered(self._calls(all_)) for all_ in all_costs])
+
+    def samples(self, cost):
+        return cost // self.periods[0] if len(self.periods) == 1 else sum(map(operator.floordiv, cost, self.periods))
 
     def _functions(self):
         """For each node but a statement the function that it lies in."""
@@ -108,28 +120,50 @@ class _Profile:
         """The blocks of places with these files, below these scopes."""
         return map(operator.add, files, map((0, 0, _INLINED, 0, 0).__getitem__, above))
 
-    def _costs(self):
+    def _joined(self, gathered):
+        """The costs of all events at each place."""
+        if len(gathered) == 1:
+            return gathered[0]
+        found = {function: {} for function in self.functions}
+        for function, blocks in found.items():
+            for block in set().union(*(each[function] for each in gathered)):
+                places = [each[function].get(block, {}) for each in gathered]
+                blocks[block] = {place: _Cost.of([of.get(place, 0) for of in places]) for place in set().union(*places)}
+        return found
+
+    def _costs(self, own):
         """The rows of statements: nothing else has a cost of its own."""
-        nodes, own = self.nodes, self.own
+        nodes = self.nodes
         functions = picked(self.function_of, list(compress(nodes.parent, own)))
         blocks = self._blocks(compress(nodes.line_file, own), compress(self.above, own))
         return zip(functions, blocks, compress(nodes.line, own), filter(None, own))
 
-    def _calls(self):
+    def _calls(self, all_):
         """The rows of calls, each sample once where one call is within the same."""
         nodes, end, covered = self.nodes, ends(self.nodes), {}
-        has_cost = bytes(map(operator.and_, nodes.scope.translate(_IS_PROC), map(bool, self.all)))
+        has_cost = bytes(map(operator.and_, nodes.scope.translate(_IS_PROC), map(bool, all_)))
         called = list(compress(range(len(nodes)), has_cost))
         callers = picked(nodes.parent, called)
         functions = picked(self.function_of, callers)
         files, lines, above = (picked(column, callers) for column in (nodes.line_file, nodes.line, self.above))
         places = zip(lines, picked(nodes.operand, called))
-        rows = zip(called, functions, files, self._blocks(files, above), places, picked(self.all, called))
+        rows = zip(called, functions, files, self._blocks(files, above), places, picked(all_, called))
         for node, function, file, block, place, cost in rows:
             key = function, file, place
             if node >= covered.get(key, 0):
                 covered[key] = end[node]
                 yield function, block, place, cost
+
+
+class _Cost(tuple):
+    """The costs of several events, as they are written."""
+
+    @classmethod
+    def of(cls, costs):
+        return cls(costs) if len(costs) > 1 else costs[0]
+
+    def __str__(self):
+        return " ".join(map(str, self))
 
 
 class _Writer:
@@ -181,5 +215,5 @@ class _Writer:
             called_file = self.profile.files.get(called, -1)
             if called_file != file:
                 lines.append(f"cfi={self.file(called_file)}\n")
-            samples, start = cost // self.profile.period, self.position(called_file, -1 if called_file < 0 else 0)
+            samples, start = self.profile.samples(cost), self.position(called_file, -1 if called_file < 0 else 0)
             lines.append(f"cfn={self.name(called)}\ncalls={samples} {start}\n{self.position(file, line)} {cost}\n")

@@ -53,15 +53,23 @@ class Labels:
 
 @dataclass
 class Shown:
-    """Which of a database's values are shown: today those of some harts, summed. The writers ask here alone, and the
-    page has the same choice (page/shown.js)."""
+    """Which of a database's values are shown: those of one event, by its place in the list, and of some harts, summed.
+    The writers ask here alone, and the page has the same choice (page/shown.js)."""
 
     harts: List[int]
+    place: int = 0
+
+    def event(self, database):
+        return database.events[self.place]
+
+    def plane(self, database, hart):
+        return database.planes[hart * len(database.events) + self.place]
 
     def sampled(self, database):
         """The nodes with exclusive values and these values, hart by hart."""
         for hart in self.harts:
-            yield from zip(database.planes[hart].node, database.planes[hart].value)
+            plane = self.plane(database, hart)
+            yield from zip(plane.node, plane.value)
 
     def exclusive(self, database):
         """Each node's exclusive value."""
@@ -80,7 +88,7 @@ class Shown:
         return values
 
     def total(self, database):
-        return sum(sum(database.planes[hart].value) for hart in self.harts)
+        return sum(sum(self.plane(database, hart).value) for hart in self.harts)
 
     def kept(self, database, percent):
         """For each node whether it has this share of the total or more. Roots are kept, and all where it is 0."""

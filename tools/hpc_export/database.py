@@ -9,6 +9,9 @@ from typing import List
 
 from .columns import numbers
 
+# The events of a run that are sampled, by their numbers, and what their values count.
+EVENTS = ("retired", "loads", "stores", "taken")
+UNITS = ("retired instructions", "loads", "stores", "taken branches")
 # Scopes of a node.
 ROOT, PROC, INLINE, CALL, STMT = range(5)
 # Kinds of a value.
@@ -25,6 +28,24 @@ class Malformed(Exception):
     def __init__(self, rule, offset):
         super().__init__(f"database rule {rule} at {offset}")
         self.rule, self.offset = rule, offset
+
+
+@dataclass
+class Event:
+    """Its number, its period, and the offsets of both in the file."""
+
+    number: int
+    period: int
+    offset: int
+    period_offset: int
+
+    @property
+    def name(self):
+        return EVENTS[self.number]
+
+    @property
+    def unit(self):
+        return UNITS[self.number]
 
 
 @dataclass
@@ -73,8 +94,8 @@ class Nodes:
 
 @dataclass
 class Plane:
-    """One hart's samples: the nodes that have some, ascending, their values, and how many samples these are; and the
-    plane's entries as bytes, with the offset of its number of entries."""
+    """A column's samples, that is a hart's of one event: the nodes that have some, ascending, their values, and how many
+    samples these are; and the plane's entries as bytes, with the offset of its number of entries."""
 
     offset: int
     data: bytes
@@ -102,12 +123,23 @@ class Context:
 
 @dataclass
 class Database:
-    """`planes` has one for each hart; values are samples times the period."""
+    """`planes` has one for each column: hart by hart, and of each hart event by event. Values are samples times the
+    period of the column's event. Version 1 has one event, retired instructions. `harts_offset` is that of the number of
+    harts in the file."""
 
-    period: int
+    version: int
+    events: List[Event]
     harts: int
+    harts_offset: int
     procedures: List[Procedure]
     files: List[File]
     nodes: Nodes
     planes: List[Plane]
     context: Context
+
+    @property
+    def columns(self):
+        return self.harts * len(self.events)
+
+    def period(self, column):
+        return self.events[column % len(self.events)].period

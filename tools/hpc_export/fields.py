@@ -1,4 +1,4 @@
-"""The fields of a database, version 1: rule 2 of rules.py. A field that isn't whole is refused with its offset."""
+"""The fields of a database: rule 2 of rules.py. A field that isn't whole is refused with its offset."""
 import operator
 from array import array
 from itertools import compress, repeat
@@ -11,6 +11,7 @@ from .database import (
     STMT,
     Context,
     Database,
+    Event,
     File,
     Malformed,
     Nodes,
@@ -19,17 +20,21 @@ from .database import (
 )
 
 
-def read_fields(data):
-    """The database whose fields these bytes are; those of the context plane are asked by `need_context`."""
+def read_fields(data, version):
+    """The database of a version whose fields these bytes are; those of the context plane are asked by `need_context`."""
     reader = _Reader(data, 8)
-    period, harts, procedures, files, nodes = (reader.word() for _ in range(5))
+    events = [Event(0, reader.word(), 8, 8)] if version == 1 else _read_events(reader)
+    harts_offset = reader.at
+    harts, procedures, files, nodes = (reader.word() for _ in range(4))
     return Database(
-        period,
+        version,
+        events,
         harts,
+        harts_offset,
         [_read_name(reader, Procedure) for _ in range(procedures)],
         [_read_name(reader, File) for _ in range(files)],
         _read_nodes(reader, nodes),
-        [_read_plane(reader, period) for _ in range(harts)],
+        [_read_plane(reader, event.period) for _ in range(harts) for event in events],
         Context(reader.at, data[reader.at :]),
     )
 
@@ -54,6 +59,11 @@ class _Reader:
         self.need(length)
         self.at += length
         return self.data[self.at - length : self.at]
+
+
+def _read_events(reader):
+    """Pairs of an event's number and its period."""
+    return [Event(*(reader.word(), reader.word()), reader.at - 8, reader.at - 4) for _ in range(reader.word())]
 
 
 def _read_name(reader, entry):

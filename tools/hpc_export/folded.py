@@ -21,6 +21,13 @@ def write(out, database, options):
     out.writelines(b"%b %d\n" % line for line in zip(texts, map(costs.__getitem__, stacks)))
 
 
+def paths(database, options):
+    """The text of the stack that each node is in."""
+    frames = _Frames(database)
+    above, last, stack_of = _stacks(database.nodes, _frames_of(database, options, frames), len(frames.texts))
+    return _texts(stack_of[:-1], above, list(map(frames.texts.__getitem__, last)))
+
+
 class _Frames:
     """The distinct texts of frames. A frame is the number of its text."""
 

@@ -1,6 +1,6 @@
 """One page for a browser, without any network: the files of page/ put together, with the database in it.
 
-The page gets the nodes and the exclusive counts of samples; all sums are its own. They are columns of numbers, deflated
+The page gets the nodes and the exclusive counts of samples, of each hart and event; all sums are its own. They are columns of numbers, deflated
 and in base64; the names are JSON, and so are the sources that were found, deflated too.
 """
 import base64
@@ -12,7 +12,7 @@ from itertools import compress
 from pathlib import Path
 
 from .columns import numbers, packed, whole
-from .contexts import readable
+from .contexts import Shown, readable
 from .database import ROOT
 
 FOLDER = Path(__file__).with_name("page")
@@ -49,12 +49,19 @@ def _json(value):
     return json.dumps(value, separators=(",", ":"))
 
 
+def _planes(database, options):
+    """The planes that the page has, hart by hart and of each hart event by event."""
+    every = [Shown(options.shown.harts, place) for place in range(len(database.events))]
+    return [shown.plane(database, hart) for hart in options.shown.harts for shown in every]
+
+
 def _names(database, options):
-    planes = [database.planes[hart] for hart in options.shown.harts]
+    planes = _planes(database, options)
+    events = [{"name": event.name, "unit": event.unit, "period": event.period} for event in database.events]
     names = {
         "title": options.title,
-        "version": 1,
-        "period": database.period,
+        "version": database.version,
+        **({"period": events[0]["period"]} if database.version == 1 else {"events": events, "event": options.shown.place}),
         "harts": options.shown.harts,
         "procedures": [readable(procedure.name) for procedure in database.procedures],
         "files": [readable(file.name) for file in database.files],
@@ -80,7 +87,7 @@ def _sources(database, options):
 
 def _columns(database, options):
     """Columns of 4 bytes each: how far the parent stands before (0 where there is none), operand, file of the line (-1
-    where there is none), line; for each hart its nodes and counts; and at last the scopes of a byte each."""
+    where there is none), line; for each hart and event the nodes and counts; and at last the scopes of a byte each."""
     nodes, count = database.nodes, len(database.nodes)
     own, parent = array("I", range(count)), array("i", nodes.parent)
     for root in compress(own, nodes.scope.translate(_IS_ROOT)):
@@ -90,8 +97,7 @@ def _columns(database, options):
     # The upper half of -1 is ones, which leaves 0.
     lines = (whole(packed(line[0::2])) & ~whole(packed(line[1::2]))).to_bytes(4 * count, "little")
     columns = [steps, packed(nodes.operand), packed(line_file[0::2]), lines]
-    for hart in options.shown.harts:
-        plane = database.planes[hart]
+    for plane in _planes(database, options):
         columns += packed(plane.node), packed(array("I", plane.samples))
     return columns + [nodes.scope]
 

@@ -10,13 +10,21 @@ import tempfile
 from dataclasses import dataclass, field
 from typing import List
 
-from . import callgrind, folded, html, linkage_names, measurement, source, speedscope
+from . import callgrind, folded, html, linkage_names, measurement, nodes, source, speedscope
 from .contexts import Shown
-from .database import Malformed
+from .database import EVENTS, Malformed
 from .reader import begin
 from .sources import Sources
 
-WRITERS = {"folded": folded, "speedscope": speedscope, "callgrind": callgrind, "html": html, "source": source}
+WRITERS = {
+    "folded": folded.write,
+    "speedscope": speedscope.write,
+    "callgrind": callgrind.write,
+    "html": html.write,
+    "source": source.write,
+    "csv": nodes.write_csv,
+    "json": nodes.write_json,
+}
 # Which formats have which options.
 ONLY = {
     "--min-percent": ("folded", "speedscope", "html", "source"),
@@ -30,12 +38,14 @@ INVALID, MALFORMED, DEVICE = 2, 3, 4
 
 @dataclass
 class Options:
-    """What a format may be told: its title, which values are shown, whether places of calls and statements are frames,
+    """What a format may be told: its title, which values are shown, and those of each event where a format has several of
+    them, whether places of calls and statements are frames,
     the share of the total below which scopes are left out, whether the costliest comes first, where sources are, the
     file whose source is written, and why call paths are partial (texts with numbers of samples)."""
 
     title: str
     shown: Shown
+    every: List[Shown]
     with_places: bool = False
     min_percent: float = 0
     by_cost: bool = False
@@ -56,7 +66,7 @@ def _arguments():
         description="Exports a profiler's database for other tools, or as a page for a browser.",
         epilog="folded: collapsed stacks for flamegraph.pl, inferno, speedscope. speedscope: its own format. "
         "callgrind: for KCachegrind and callgrind_annotate. html: a page of its own, without any network. source: the "
-        "text of FILE with the cost of each line. "
+        "text of FILE with the cost of each line. csv, json: a row for each node of the tree, with its values. "
         "Status: 0 done, 2 an invalid command line, 3 a malformed database, 4 a file that can't be read or written.",
     )
     parser.add_argument("database", metavar="DB", help="the database that `hpc profile` stored")
@@ -64,10 +74,15 @@ def _arguments():
     parser.add_argument("file", metavar="FILE", nargs="?", help="source: the file, by its name or the end of it")
     parser.add_argument("-o", dest="output", metavar="FILE", help="write to FILE in place of standard output")
     parser.add_argument("--hart", type=int, action="append", metavar="H", help="this hart alone (may be repeated)")
+    parser.add_argument(
+        "--event", choices=EVENTS, metavar="EVENT",
+        help=" | ".join(EVENTS) + ": this event (default: the first of the database; callgrind, csv, json: all)",
+    )
     parser.add_argument("--title", help="the title of what is written (default: the database's name)")
     parser.add_argument("--elf", metavar="PROGRAM", help="name procedures as PROGRAM's linkage names do: classes too")
     parser.add_argument(
-        "--places", action="store_true", help="folded, speedscope: places of calls and statements are frames too"
+        "--places", action="store_true",
+        help="folded, speedscope, csv, json: places of calls and statements are frames too",
     )
     parser.add_argument("--by-cost", action="store_true", help="folded: the costliest stack first")
     parser.add_argument(
@@ -166,7 +181,8 @@ def _causes(words, database):
         raise Refused(MALFORMED, f"{words.measurement}: {error}") from error
     counted = sum(path.samples for paths in measured.harts for path in paths)
     samples = sum(sum(plane.samples) for plane in database.planes)
-    if (measured.period, counted) != (database.period, samples):
+    events = [(event.number, event.period) for event in database.events]
+    if ([(0, measured.period)], counted) != (events, samples):
         raise Refused(MALFORMED, f"{words.measurement}: the measurement of another database")
     return [[measurement.CAUSES[end], count] for end, count in measurement.causes(measured).most_common()]
 
@@ -179,13 +195,23 @@ def _sources(words):
     return Sources(words.source or (["="] if words.format == "source" else []))
 
 
+def _places(words, database):
+    """The places of the events that are shown."""
+    names = [event.name for event in database.events]
+    if words.event and words.event not in names:
+        raise Refused(INVALID, f"{words.database}: no event {words.event}; there is {' and '.join(names)}")
+    return [names.index(words.event)] if words.event else list(range(len(names)))
+
+
 def _options(words, database):
     harts = sorted(set(words.hart)) if words.hart else list(range(database.harts))
     if not set(harts) <= set(range(database.harts)):
         raise Refused(INVALID, f"{words.database}: harts are 0 to {database.harts - 1}")
+    places = _places(words, database)
     return Options(
         title=words.title or os.path.basename(words.database),
-        shown=Shown(harts),
+        shown=Shown(harts, places[0]),
+        every=[Shown(harts, place) for place in places],
         with_places=words.places,
         min_percent=words.min_percent,
         by_cost=words.by_cost,
@@ -208,7 +234,7 @@ def _write(words, database, finish):
     options = _options(words, database)
     try:
         with _opened(words.output, finish) as out:
-            WRITERS[words.format].write(out, database, options)
+            WRITERS[words.format](out, database, options)
             out.flush()
     except source.NotFound as error:
         raise Refused(INVALID, str(error)) from error

@@ -1,6 +1,6 @@
 """Rules 6 and 7: both planes are what the exclusive values give.
 
-The samples of all harts are added up in one walk over the nodes: a node's are one number, with 32 bits for each hart.
+The samples of all columns are added up in one walk over the nodes: a node's are one number, with 32 bits for each column.
 There are at most 2^20 samples, so no sum touches the next. With these sums each plane is compared as a whole, of many
 nodes by a process of its own, while this one begins to write the export.
 """
@@ -48,23 +48,26 @@ def _are_samples(database):
         all(not plane.node or max(plane.node) < len(nodes) for plane in planes)
         and all(0 not in plane.value for plane in planes)
         and all(set(picked(nodes.scope, plane.node)) <= {STMT} for plane in planes)
-        and all(whole(packed(plane.samples)) * database.period == whole(packed(plane.value)) for plane in planes)
+        and all(
+            whole(packed(plane.samples)) * database.period(column) == whole(packed(plane.value))
+            for column, plane in enumerate(planes)
+        )
         and sum(sum(plane.samples) for plane in planes) <= MOST_SAMPLES
     )
 
 
 def _half(database):
-    """The bits of the harts' samples of one kind."""
-    return WIDTH * database.harts
+    """The bits of the columns' samples of one kind."""
+    return WIDTH * database.columns
 
 
 def _sums(database):
-    """Each node's samples: the frame ones of each hart, above these the inclusive ones, and above these a bit for a
+    """Each node's samples: the frame ones of each column, above these the inclusive ones, and above these a bit for a
     statement, whose exclusive samples are the same."""
     nodes, half = database.nodes, _half(database)
     sums = list(map((0, 0, 0, 0, 1 << 2 * half).__getitem__, nodes.scope)) + [0]
-    for hart, plane in enumerate(database.planes):
-        one = (1 | 1 << half) << WIDTH * hart
+    for column, plane in enumerate(database.planes):
+        one = (1 | 1 << half) << WIDTH * column
         for node, samples in zip(plane.node, plane.samples):
             sums[node] += samples * one
     # What goes up to the node above: all, but from a procedure to its caller the inclusive samples alone.
@@ -81,29 +84,28 @@ def _sums(database):
 
 def _is_profile(database, sums):
     """Whether the entries of the profile plane ascend and are these sums. As many are expected as the context plane has."""
-    harts, length = database.harts, len(database.context.data) - 4 * len(sums)
-    fields = 2 * harts + 1
+    length, fields = len(database.context.data) - 4 * len(sums), 2 * database.columns + 1
     counts = numbers("I", b"".join(map(int.to_bytes, sums, repeat(4 * fields), repeat("little"))))
     return sum(len(plane.data) for plane in database.planes) == length and all(
-        _is_plane(database, hart, counts, fields) for hart in range(harts)
+        _is_plane(database, column, counts, fields) for column in range(database.columns)
     )
 
 
-def _is_plane(database, hart, counts, fields):
-    """Whether the entries of a hart ascend, and are these counts of samples, so many to a node. Exclusive ones are known
+def _is_plane(database, column, counts, fields):
+    """Whether the entries of a column ascend, and are these counts of samples, so many to a node. Exclusive ones are known
     to be at statements, where they are the frame's."""
-    plane, harts = database.planes[hart], database.harts
+    plane = database.planes[column]
     words, kinds = numbers("I", plane.data), plane.data[4::16]
     if packed(words[1::4]) != widened(kinds) or not set(kinds) <= {EXCLUSIVE, FRAME, INCLUSIVE}:
         return False
     nodes, values = words[0::4], numbers("Q", plane.data)[1::2]
-    column, count = whole(packed(nodes)), len(nodes)
-    if max(nodes, default=-1) >= len(database.nodes) or not ascend(column << 2 | whole(widened(kinds)), count):
+    all_nodes, count = whole(packed(nodes)), len(nodes)
+    if max(nodes, default=-1) >= len(database.nodes) or not ascend(all_nodes << 2 | whole(widened(kinds)), count):
         return False
-    place_of = bytes([hart, hart, harts + hart]).ljust(256, b"\0")
-    places = column * fields + whole(widened(kinds.translate(place_of)))
+    place_of = bytes([column, column, database.columns + column]).ljust(256, b"\0")
+    places = all_nodes * fields + whole(widened(kinds.translate(place_of)))
     found = array("Q", picked(counts, numbers("I", places.to_bytes(4 * count, "little"))))
-    return 0 not in found and whole(packed(found)) * database.period == whole(packed(values))
+    return 0 not in found and whole(packed(found)) * database.period(column) == whole(packed(values))
 
 
 def _is_context(database, sums):
@@ -132,9 +134,10 @@ class _Parts(dict):
 
     def __init__(self, database):
         super().__init__()
-        harts = range(database.harts)
+        columns = range(database.columns)
         self.exclusive, *kinds = (
-            [_Entries(struct.pack("<II", kind, hart), database.period) for hart in harts] for kind in range(3)
+            [_Entries(struct.pack("<II", kind, column), database.period(column)) for column in columns]
+            for kind in range(3)
         )
         self.others = kinds[0] + kinds[1]
         self.fields = struct.Struct(f"<{len(self.others)}II")
@@ -153,8 +156,8 @@ class _Parts(dict):
 def _find_profile(database):
     nodes, samples = database.nodes, 0
     columns = [plane.columns() for plane in database.planes]
-    for plane, entries in zip(database.planes, columns):
-        samples = _check_entries(database, plane, entries, samples)
+    for number, (plane, entries) in enumerate(zip(database.planes, columns)):
+        samples = _check_entries(database, number, entries, samples)
     for plane, entries in zip(database.planes, columns):
         _find_difference(nodes, plane, entries)
     sampled = {node for plane in database.planes for node in plane.node}
@@ -163,9 +166,10 @@ def _find_profile(database):
             raise Malformed(6, nodes.offset_of(node))
 
 
-def _check_entries(database, plane, entries, samples):
-    """The first part of the rule for one hart; gives the samples up to here."""
-    count, scope, period, before = len(database.nodes), database.nodes.scope, database.period, -1
+def _check_entries(database, column, entries, samples):
+    """The first part of the rule for one column; gives the samples up to here."""
+    plane, period = database.planes[column], database.period(column)
+    count, scope, before = len(database.nodes), database.nodes.scope, -1
     for place, (node, kind, value) in enumerate(zip(*entries)):
         key = node * 3 + kind
         if node >= count or kind > INCLUSIVE or value == 0 or key <= before:

@@ -1,8 +1,8 @@
-"""Reads a database of version 1 and checks its rules, in the order and with the offsets that the profiler answers.
+"""Reads a database and checks its rules, in the order and with the offsets that the profiler answers.
 
 1. the first 8 bytes;
 2. every field lies in the file, tags are known, and nothing follows the last field (fields.py);
-3. the period is at least 1, the harts are 1 to 16;
+3. events are 1 to 4, ascending, and not the first alone, which is version 1's; periods are at least 1, the harts 1 to 16;
 4. procedures and files ascend, and each is used;
 5. the nodes are in preorder, siblings ascend, each scope stands where such a scope may stand;
 6. the profile plane ascends, and is what its exclusive values give (planes.py);
@@ -15,7 +15,7 @@ from array import array
 from itertools import compress, islice
 
 from .columns import merged, numbers, packed, picked, spread, whole, widened
-from .database import CALL, INLINE, NAMELESS, PROC, ROOT, STMT, Malformed
+from .database import CALL, EVENTS, INLINE, NAMELESS, PROC, ROOT, STMT, Malformed
 from .fields import need_context, read_fields
 from .planes import begin_planes
 
@@ -23,9 +23,10 @@ MOST_NAME = 4096
 MOST_HARTS = 16
 
 
-def begin(data):
-    """The database that these bytes are, or Malformed; and what waits until rules 6 and 7 are checked, and raises that."""
-    database = read_fields(data)
+def begin(data, version):
+    """The database of a version that these bytes are, or Malformed; and what waits until rules 6 and 7 are checked, and
+    raises that."""
+    database = read_fields(data, version)
     try:
         _check_head(database)
         _check_names(database)
@@ -42,10 +43,17 @@ def begin(data):
 
 
 def _check_head(database):
-    if database.period < 1:
+    numbers, before = [event.number for event in database.events], -1
+    if database.version > 1 and (not 1 <= len(numbers) <= len(EVENTS) or numbers == [0]):
         raise Malformed(3, 8)
+    for event in database.events:
+        if not before < event.number < len(EVENTS):
+            raise Malformed(3, event.offset)
+        if event.period < 1:
+            raise Malformed(3, event.period_offset)
+        before = event.number
     if not 1 <= database.harts <= MOST_HARTS:
-        raise Malformed(3, 12)
+        raise Malformed(3, database.harts_offset)
 
 
 def _check_names(database):

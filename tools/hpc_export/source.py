@@ -20,6 +20,9 @@ def write(out, database, options):
     total = options.shown.total(database)
     lines = options.sources.lines(name)
     out.write(encoded(f"file {name}\n"))
+    if database.version > 1:
+        event = options.shown.event(database)
+        out.write(encoded(f"event {event.name} period {event.period} samples {total // event.period} total {total}\n"))
     if lines is None:
         out.write(b"its text is not found: say where it lies by --source FOLDER or --source FROM=TO\n")
     out.write(encoded(HEAD))

@@ -22,8 +22,9 @@ def write(out, database, options):
     out.write(b'"shared":{"frames":[\n%s]},"profiles":[' % b",\n".join(_json(frame) for frame in frames.table))
     for hart in harts:
         out.write(b"," if hart != harts[0] else b"")
-        plane = database.planes[hart]
-        out.write(b'{"type":"evented","name":"hart %d","unit":"none","startValue":0,' % hart)
+        plane = options.shown.plane(database, hart)
+        name = f"hart {hart}" + (f", {options.shown.event(database).name}" if database.version > 1 else "")
+        out.write(b'{"type":"evented","name":%s,"unit":"none","startValue":0,' % _json(name))
         out.write(b'"endValue":%d,"events":[' % sum(plane.value))
         events = _events(frames, plane)
         if events:

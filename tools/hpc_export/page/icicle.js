@@ -185,8 +185,8 @@ class Icicle {
     this.selected = node;
     this.tell(node);
     if (speaks) {
-      const {label, all, share} = this.describe(node), depth = this.graph.depth(node);
-      document.getElementById("spoken").textContent = `${label}, level ${depth}, ${share} percent, ${all} instructions`;
+      const {label, all, share} = this.describe(node), depth = this.graph.depth(node), {unit} = view.shown;
+      document.getElementById("spoken").textContent = `${label}, level ${depth}, ${share} percent, ${all} ${unit}`;
     }
     const level = this.graph.depth(node) - this.graph.depth(this.root), {scroller} = this;
     if (level >= 0) {

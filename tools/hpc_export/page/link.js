@@ -1,6 +1,6 @@
-// The page's state in the fragment of its address, so that a link shows what was seen: harts, filters, graph, zoom,
-// the selected node, table, sorting, the selected row, search, least share, the line of a source. What is as at the
-// start is left out. Node numbers are those of this export.
+// The page's state in the fragment of its address, so that a link shows what was seen: event, harts, filters, graph,
+// zoom, the selected node, table, sorting, the selected row, search, least share, the line of a source. What is as at
+// the start is left out. Node numbers are those of this export.
 
 class Link {
   constructor() {
@@ -22,6 +22,7 @@ class Link {
     const {icicle, grid, shown, source, edges} = view, {graph} = icicle, {column, down} = grid.sort;
     const node = at => at === graph.count ? undefined : at;
     const words = {
+      event: shown.event === profile.event ? undefined : profile.events[shown.event].name,
       hart: shown.hart === -1 ? undefined : profile.harts[shown.hart],
       filters: shown.filters.map(filterText).join(".") || undefined,
       graph: view.graphKind === "procedure" ? undefined : view.graphKind,
@@ -69,7 +70,8 @@ class Link {
     const panes = (words.panes || "").split(".").map(Number);
     view.edges.forEach((edge, k) => { if (panes[k]) edge.set(panes[k] / 100); });
     const hart = profile.harts.findIndex(hart => String(hart) === words.hart);
-    view.choose({hart, filters});
+    const event = profile.events.findIndex(({name}) => name === words.event);
+    view.choose({event: event < 0 ? profile.event : event, hart, filters});
     this.restorePlaces(words, number);
   }
 

@@ -7,8 +7,12 @@ async function unpacked(id) {
   return new Response(new Blob([packed]).stream().pipeThrough(new DecompressionStream("deflate")));
 }
 
-// The one reader of what the exporter writes, by its version.
-const READERS = {1: (names, buffer) => Profile.unpacked(names, buffer)};
+// The readers of what the exporter writes, by its version. Version 1 has one event.
+const RETIRED = {name: "retired", unit: "retired instructions"};
+const READERS = {
+  1: (names, buffer) => Profile.unpacked({...names, events: [{...RETIRED, period: names.period}], event: 0}, buffer),
+  2: (names, buffer) => Profile.unpacked(names, buffer),
+};
 
 async function main() {
   const names = JSON.parse(document.getElementById("names").textContent);
@@ -37,7 +41,7 @@ const hpc = window.hpc = {
     const waiting = sorted(TABLES[kind].make(view.samples)).map(row => [0, row]);
     while (waiting.length) {
       const [level, row] = waiting.pop();
-      const [all, own] = [row.inclusive, row[value]].map(samples => samples * profile.period);
+      const [all, own] = [row.inclusive, row[value]].map(samples => samples * view.shown.period);
       rows.push([level, all, share(row.inclusive, total), own, row.name]);
       if (row.has && level < depth) for (const below of sorted(row.make())) waiting.push([level + 1, below]);
     }

@@ -1,13 +1,15 @@
-// The profile: the nodes in preorder, and the samples of each hart. Nodes, procedures and files are places in lists.
+// The profile: the nodes in preorder, and the samples of each hart and event. Nodes, procedures, files and events are
+// places in lists.
 
 const ROOT = 0, PROC = 1, INLINE = 2, CALL = 3, STMT = 4;
 const ROOT_NAMES = ["<thread root>", "<partial call paths>"];
 
 class Profile {
-  // `names` has the lists and numbers of the export; the columns are parent, operand, lineFile, line and scope.
-  // `nodeOf` says of a profile that filters made which of its nodes each node of the whole profile is.
-  constructor(names, columns, hartSamples, nodeOf = null) {
-    Object.assign(this, names, columns, {names, hartSamples, nodeOf});
+  // `names` has the lists and numbers of the export; the columns are parent, operand, lineFile, line and scope. Samples
+  // are hart by hart, and of each hart event by event. `nodeOf` says of a profile that filters made which of its nodes
+  // each node of the whole profile is.
+  constructor(names, columns, allSamples, nodeOf = null) {
+    Object.assign(this, names, columns, {names, allSamples, nodeOf});
     const n = this.count = this.scope.length;
     this.end = new Int32Array(n);
     for (let i = n - 1; i >= 0; i--) {
@@ -29,9 +31,9 @@ class Profile {
     const column = (Type, length) => { const values = new Type(buffer, at, length); at += 4 * length; return values; };
     const parent = column(Int32Array, n).map((before, i) => before ? i - before : -1);
     const operand = column(Int32Array, n), lineFile = column(Int32Array, n), line = column(Uint32Array, n);
-    const harts = names.entries.map(length =>
+    const samples = names.entries.map(length =>
       ({nodes: column(Uint32Array, length), counts: column(Uint32Array, length)}));
-    return new Profile(names, {parent, operand, lineFile, line, scope: new Uint8Array(buffer, at, n)}, harts);
+    return new Profile(names, {parent, operand, lineFile, line, scope: new Uint8Array(buffer, at, n)}, samples);
   }
 
   place(i) {
@@ -86,11 +88,11 @@ class Profile {
     return i < 0 || this.scope[i] === ROOT ? -1 : this.operand[i];
   }
 
-  // The exclusive samples of one hart, or of all where it is -1, of the nodes where `isShown` says so.
-  exclusive(hart, isShown = null) {
-    const found = new Uint32Array(this.count);
-    this.hartSamples.forEach(({nodes, counts}, h) => {
-      if (hart !== -1 && hart !== h) return;
+  // The exclusive samples of an event, and of one hart or of all where it is -1, of the nodes where `isShown` says so.
+  exclusive(event, hart, isShown = null) {
+    const found = new Uint32Array(this.count), {length} = this.events;
+    this.allSamples.forEach(({nodes, counts}, k) => {
+      if (k % length !== event || hart !== -1 && hart !== Math.floor(k / length)) return;
       for (let k = 0; k < nodes.length; k++) if (!isShown || isShown[nodes[k]]) found[nodes[k]] += counts[k];
     });
     return found;
@@ -140,11 +142,11 @@ function shortFiles(files) {
 }
 
 const grouped = new Intl.NumberFormat("en");
-const figure = samples => grouped.format(samples * profile.period);
+const figure = samples => grouped.format(samples * view.shown.period);
 
 // A figure of few letters, rounded down: 11.6 M.
 function shortFigure(samples) {
-  const value = samples * profile.period, units = ["", " k", " M", " G", " T"];
+  const value = samples * view.shown.period, units = ["", " k", " M", " G", " T"];
   let unit = 0;
   while (unit < 4 && value >= 1000 ** (unit + 1)) unit++;
   if (!unit) return String(value);

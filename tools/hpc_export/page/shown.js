@@ -1,30 +1,34 @@
-// Which values are shown: those of one hart or of all, of the call paths that the filters leave. All tables, the graph
-// and the sources ask here. A filter is {what: "focus" or "hide", kind: "procedure" or "file", of: its place in the
-// list}.
+// Which values are shown: those of one event and of one hart or of all, of the call paths that the filters leave. All
+// tables, the graph and the sources ask here. A filter is {what: "focus" or "hide", kind: "procedure" or "file", of: its
+// place in the list}.
 //
 // Focus counts the samples alone whose call path has the procedure, or a frame in the file. Hide takes the procedure's
 // frames, or those of the file's procedures, out of the paths: their cost is that of the call which led to them.
 
 class Shown {
   constructor(base) {
-    Object.assign(this, {base, hart: -1, filters: []});
+    Object.assign(this, {base, event: base.event, hart: -1, filters: []});
     this.choose();
   }
 
   // What is shown of it from now on. Gives the profile, whose nodes filters may have made anew, and its samples.
-  choose({hart = this.hart, filters = this.filters} = {}) {
+  choose({event = this.event, hart = this.hart, filters = this.filters} = {}) {
     const hidden = list => list.filter(filter => filter.what === "hide");
     const text = list => hidden(list).map(filterText).join();
     if (!this.profile || text(filters) !== text(this.filters)) this.profile = withoutHidden(this.base, hidden(filters));
-    Object.assign(this, {hart, filters});
+    Object.assign(this, {event, hart, filters});
     const focused = filters.filter(filter => filter.what === "focus");
-    const exclusive = this.base.exclusive(hart, focused.length ? inFocus(this.base, focused) : null);
+    const exclusive = this.base.exclusive(event, hart, focused.length ? inFocus(this.base, focused) : null);
     this.samples = this.profile.samplesOf(this.profile.moved(exclusive));
     return this;
   }
 
-  // How many harts are shown, and what is called so.
+  // How many harts are shown.
   get harts() { return this.hart === -1 ? this.base.harts.length : 1; }
+
+  // For how many of the event's instructions a sample stands, and what these are called.
+  get period() { return this.base.events[this.event].period; }
+  get unit() { return this.base.events[this.event].unit; }
 }
 
 // A filter as a word of links, and the filter of a word, if it is one.

@@ -21,6 +21,6 @@ function written(rows, columns, total, separator) {
     : /[",\n]/.test(word) ? `"${word.replace(/"/g, '""')}"` : word;
   const head = ["level", "scope", ...columns.map(column => column.endsWith("share") ? `${VALUE[column]} %` : column)];
   const lines = rows.map(row => [String(row.level), row.name, ...columns.map(column => column.endsWith("share")
-    ? share(row[VALUE[column]], total) : String(row[VALUE[column]] * profile.period))]);
+    ? share(row[VALUE[column]], total) : String(row[VALUE[column]] * view.shown.period))]);
   return [head, ...lines].map(words => words.map(quoted).join(separator)).join("\r\n") + "\r\n";
 }

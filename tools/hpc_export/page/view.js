@@ -27,6 +27,8 @@ class View {
     this.procedure = base.operand[base.scope.indexOf(PROC)] || 0;
     this.link = new Link();
     const {harts} = base, all = harts.length > 1 ? `all (${harts.length})` : "all";
+    chooser("event", base.events.map(({unit}, k) => [k, unit]), base.event, event => this.setEvent(Number(event)));
+    document.getElementById("event-field").hidden = base.events.length === 1;
     chooser("hart", [[-1, all], ...harts.map((hart, h) => [h, hart])], -1, hart => this.setHart(Number(hart)));
     for (const kind of Object.keys(GRAPHS))
       document.getElementById(`by-${kind}`).onclick = () => this.setGraph(kind);
@@ -85,7 +87,8 @@ class View {
     const tell = what => this.say(`${grouped.format(grid.rows.length)} rows ${what}`);
     document.getElementById("copy").onclick = () => copied(text("\t")).then(() => tell("copied"));
     document.getElementById("csv").onclick = () => {
-      saved(`${profile.title}.${this.kind}.csv`, text(","));
+      const {event, base} = this.shown, name = base.events.length > 1 ? `.${base.events[event].name}` : "";
+      saved(`${profile.title}${name}.${this.kind}.csv`, text(","));
       tell("saved");
     };
   }
@@ -103,6 +106,7 @@ class View {
     profile = this.shown.profile;
     if (profile !== before) this.graphs = {};
     this.samples = this.shown.samples;
+    document.getElementById("event").value = this.shown.event;
     document.getElementById("hart").value = this.shown.hart;
     this.tellFacts();
     this.setLeast(this.percent, false);
@@ -115,8 +119,9 @@ class View {
 
   tellFacts() {
     const {total} = this.samples, {harts} = this.shown, facts = document.getElementById("facts");
-    facts.innerHTML = "<b></b> retired instructions · <b></b> samples, one in <b></b> · <b></b>";
-    [figure(total), grouped.format(total), grouped.format(profile.period), harts === 1 ? "1 hart" : `${harts} harts`]
+    const {unit, period} = this.shown;
+    facts.innerHTML = `<b></b> ${unit} · <b></b> samples, one in <b></b> · <b></b>`;
+    [figure(total), grouped.format(total), grouped.format(period), harts === 1 ? "1 hart" : `${harts} harts`]
       .forEach((text, k) => { facts.querySelectorAll("b")[k].textContent = text; });
     const causes = document.getElementById("causes");
     causes.hidden = !profile.partial.length;
@@ -130,6 +135,7 @@ class View {
   }
   causesOf(label) { return label === ROOT_NAMES[1] && profile.partial.length ? ` · ${this.causes()}` : ""; }
 
+  setEvent(event) { this.choose({event}); this.changed(); }
   setHart(hart) { this.choose({hart}); this.changed(); }
 
   // The graph begins at all samples then, since its nodes are others.
