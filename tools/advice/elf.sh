@@ -16,7 +16,7 @@ kind_of() {
   [ -s "$1" ] || { echo 'an empty file'; return; }
   IFS= read -r -d '' -n 8 first <"$1"
   case $first in
-  HPCPROF1) echo 'a database' ;;
+  HPCPROF[12]) echo 'a database' ;;
   HPCRUNM1) echo 'a measurement' ;;
   $'\x7fELF'*) echo 'an ELF file' ;;
   '!<arch>'*) echo 'a library (ar)' ;;

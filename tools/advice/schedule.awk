@@ -18,7 +18,7 @@ function tell_ends() {
 
 function tell_harts(  number) {
   if ($0 ~ /^\177ELF/) tell("this is a program, and not a schedule")
-  if ($0 ~ /^HPCPROF1/) tell("this is a database, and not a schedule")
+  if ($0 ~ /^HPCPROF[12]/) tell("this is a database, and not a schedule")
   if ($0 ~ /^HPCRUNM1/) tell("this is a measurement, and not a schedule")
   if ($0 ~ /^\357\273\277/) tell("the file begins with a byte order mark, which a schedule hasn't")
   tell_ends()
