@@ -1,2 +1,11 @@
 pub mod Periods
-pub mod Meeting
+pub mod Following
+pub mod Hart
+pub mod Origins
+pub mod Advancing
+pub mod Places
+pub mod Keeping
+pub mod Clocks
+pub mod Carrying
+pub mod Sampled
+pub mod Passes

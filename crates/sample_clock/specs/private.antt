@@ -1,2 +1,3 @@
 -- Definitions that only private functions and proofs rest on.
+pub mod Countdown
 pub mod Advance

@@ -1,65 +1,89 @@
--- What a clock knows, and what it does at a time: definitions that only its proofs rest on.
-use Rattle.std.specs.Prelude.{◌≡◌, ℕ, ◌+◌, ◌≤◌, ◌<◌, ◌%◌, ◌^◌, true, Bool, List, [], ◌∷◌, length, slice_index, Result}
-use Rattle.std.specs.Prelude.{Ok, Err}
+-- What a clock does at a time: definitions that only its proofs rest on.
+use Rattle.std.specs.Prelude.{◌≡◌, ◌≢◌, ℕ, ◌+◌, ◌≤◌, ◌<◌, ◌%◌, Bool, true, false, List, [], ◌∷◌, length, map}
+use Rattle.std.specs.Prelude.{Option, Some, None, Result, Ok, Err, option_to_list}
+use Rattle.std.specs.List.{AllByRecursion}
+use Rattle.prof_bytes.specs.declared.fail.Fail.{Fail}
+use Rattle.prof_bytes.specs.declared.fail.Fail.TheVariants as fails
 use Rattle.prof_bytes.specs.declared.fail.Memory.{Memory}
+use Rattle.scope_types.specs.Events.{is_retired_alone}
+use Rattle.scope_types.specs.Limits.{most_samples}
+use Rattle.scope_types.specs.Raw.{Raw}
+use Rattle.rv_run.specs.Schedule.{most_instructions}
 use Rattle.rv_run.specs.State.{hart_of}
-use Rattle.rv_run.specs.declared.machine.Due.{Due}
 use Rattle.rv_run.specs.Run.{Instant, instant, finished, preceded}
-use Rattle.rv_run.specs.Progress.{to_come}
-use Rattle.sample_clock.specs.declared.clock.Sample.{Sample}
+use Rattle.rv_run.specs.Progress.{first_upcoming, hart_event, to_come}
 use Rattle.sample_clock.specs.declared.clock.Advance.{Advance}
 use Rattle.sample_clock.specs.declared.clock.Advance.TheVariants as advances
-use Rattle.sample_clock.specs.Samples.{Paths, is_sampled, sample_of}
-use Rattle.scope_types.specs.Limits.{most_samples}
-use Rattle.sample_clock.specs.Clock.{Sampling, Unsampled}
+use Rattle.sample_clock.specs.declared.clock.TooManySamples.{TooManySamples}
+use Rattle.sample_clock.specs.declared.clock.Sample.{Sample}
+use Rattle.sample_clock.specs.declared.coming.Coming.{Coming}
+use Rattle.sample_clock.specs.Samples.{Paths, count_of, sampled_places, samples_at}
+use Rattle.sample_clock.specs.Clock.{Sampling, earlier_of, samples_now, samples_to_come}
 
--- the ordinal of a hart's next sample: the least multiple of the period above what it retired
-pub record IsNext (period retired next : ℕ) : Type 0 where
-  pub multiple : next % period ≡ 0
-  pub above : retired < next
-  pub least : next ≤ retired + period
+-- ---- the samples of one instruction
 
--- a clock knows the ordinal of each hart's next sample
-pub record IsClock (s : Sampling) (next : List ℕ) : Type 0 where
-  pub some : 0 < s.period
-  pub fits : s.period < 2 ^ 32
-  pub harts : length s.machine.state.harts ≤ length next
-  pub nexts : (hart : ℕ) → hart < length s.machine.state.harts
-      → IsNext s.period (hart_of s.machine.state hart).retired (slice_index next hart)
-  pub met_few : s.met ≤ most_samples + 1
+-- the places of the events for which an instruction is sampled, of which retired has the first
+abbrev pub places_of : Bool → Option ℕ → List ℕ
+places_of true place = 0 ∷ option_to_list place
+places_of false place = option_to_list place
 
--- no sample was met, and there may be more
-pub record NoneMet (old new : Sampling) : Type 0 where
-  pub carried : Unsampled old new
+-- the sample of an instruction for the event at a place, with the call path before it
+abbrev pub coming_sample : Coming → Raw → ℕ → Sample
+coming_sample c path place = record { hart = c.hart; event = place; ordinal = c.ordinal; path = path }
+
+-- those for all events
+abbrev pub coming_samples : Coming → Raw → List Sample
+coming_samples c path = map (coming_sample c path) (places_of c.is_retired_due c.place)
+
+-- ---- one instruction, and several
+
+-- what is known of the instruction that is next
+pub record IsComing (c : Coming) (s : Sampling) : Type 0 where
+  pub hart : c.hart < length s.machine.state.harts
+  pub few : c.ordinal ≤ most_instructions
+  pub is :
+      Some (record { hart = c.hart; pc = c.pc; ordinal = c.ordinal }) ≡ first_upcoming (to_come s.machine).instants
+  pub extra : is_retired_alone s.events ≡ false → c.extra ≡ hart_event c.hart s.machine.state
+  pub places :
+      sampled_places (earlier_of s) s.events (record { before = []; instant = instant c.hart s.machine.state true })
+      ≡ places_of c.is_retired_due c.place
+
+-- the counts of events are more by some instructions, but for multiples of the periods
+abbrev pub GoOn : List Instant → Sampling → Sampling → Type 0
+GoOn passed old new =
+    AllByRecursion (λ e. (hart : ℕ)
+    → (earlier_of old e.event hart + count_of e.event hart passed) % e.period
+    ≡ earlier_of new e.event hart % e.period)
+    old.events
+
+-- the machine carried out these instructions, and nothing was given
+pub record Passes (passed : List Instant) (old new : Sampling) : Type 0 where
+  pub run : to_come old.machine ≡ preceded passed (to_come new.machine)
+  pub counts : GoOn passed old new
+  pub events : new.events ≡ old.events
+  pub pending : new.pending ≡ old.pending
   pub met : new.met ≡ old.met
-  pub few : old.met ≤ most_samples
 
--- the instruction that was due was carried out, and retired or not
-pub record CarriedOut (due : Due) (is_retired : Bool) (old new : Sampling) : Type 0 where
-  pub run : to_come old.machine ≡ preceded (instant due.hart old.machine.state is_retired ∷ []) (to_come new.machine)
-  pub ordinal_is : due.ordinal ≡ (hart_of old.machine.state due.hart).retired + 1
-  pub pc_is : due.pc ≡ (hart_of old.machine.state due.hart).pc
-  pub period : new.period ≡ old.period
-  pub met : new.met ≡ old.met
+-- the next instruction was carried out, and retired or not
+pub record CarriedOut (c : Coming) (is_retired : Bool) (old new : Sampling) : Type 0 where
+  pub passes : Passes (instant c.hart old.machine.state is_retired ∷ []) old new
+  pub ordinal_is : c.ordinal ≡ (hart_of old.machine.state c.hart).retired + 1
+  pub pc_is : c.pc ≡ (hart_of old.machine.state c.hart).pc
 
--- an instruction was carried out that is sampled, and its sample is not counted yet
+-- some instructions were carried out of which none is sampled
+pub record Quiet (path_of : Paths) (old new : Sampling) : Type 0 where
+  pub passed : List Instant
+  pub passes : Passes passed old new
+  pub none : samples_now path_of old passed ≡ []
+
+-- one instruction was carried out that is sampled: here is its first sample, which is not counted yet, and others are
+-- pending
 pub record OneSampled (path_of : Paths) (sample : Sample) (old new : Sampling) : Type 0 where
   pub instant : Instant
   pub run : to_come old.machine ≡ preceded (instant ∷ []) (to_come new.machine)
-  pub sampled : is_sampled old.period instant ≡ true
-  pub told : sample ≡ sample_of path_of instant
-  pub period : new.period ≡ old.period
-  pub met : new.met ≡ old.met
-
--- some were carried out that are not sampled, one at least
-pub record SomeUnsampled (old new : Sampling) : Type 0 where
-  pub carried : Unsampled old new
-  pub some : 0 < length carried.passed
-  pub met : new.met ≡ old.met
-
--- memory ran out; some may have been carried out before that are not sampled
-pub record BrokeOff (old new : Sampling) : Type 0 where
-  pub carried : Unsampled old new
+  pub sampled : samples_at path_of (earlier_of old) old.events (record { before = []; instant = instant }) ≢ []
+  pub come : samples_to_come path_of old ≡ sample ∷ samples_to_come path_of new
+  pub events : new.events ≡ old.events
   pub met : new.met ≡ old.met
 
 -- the run has ended
@@ -67,9 +91,28 @@ pub record Ended (old new : Sampling) : Type 0 where
   pub ended : to_come old.machine ≡ finished old.machine.state
   pub same : new ≡ old
 
--- what comes next of a run was carried out
+-- what comes next of a run was carried out: where the run goes on, at least one instruction
 abbrev pub Advances : Paths → Result Advance Memory → Sampling → Sampling → Type 0
 Advances path_of (Ok advances.End) old new = Ended old new
-Advances path_of (Ok advances.Unsampled) old new = SomeUnsampled old new
+Advances path_of (Ok advances.Unsampled) old new = (q : Quiet path_of old new) × (0 < length q.passed)
 Advances path_of (Ok (advances.Sampled sample)) old new = OneSampled path_of sample old new
-Advances path_of (Err memory) old new = BrokeOff old new
+Advances path_of (Err memory) old new = Quiet path_of old new
+
+-- ---- the next sample
+
+-- no sample was met, and there may be more
+pub record NoneMet (path_of : Paths) (old new : Sampling) : Type 0 where
+  pub quiet : Quiet path_of old new
+  pub pending : old.pending ≡ []
+  pub few : old.met ≤ most_samples
+
+-- one more sample was met, and nothing else has changed
+abbrev pub with_one_met : Sampling → Sampling
+with_one_met s = record s { met = s.met + 1 }
+
+-- a sample is given, unless it is one too many
+abbrev pub IsMet : Sample → Result (Option Sample) (Fail TooManySamples) → Sampling → Type 0
+IsMet sample (Ok (Some given)) new = (given ≡ sample) × (new.met ≤ most_samples)
+IsMet sample (Ok None) new = ⊥
+IsMet sample (Err (fails.Fault fault)) new = new.met ≡ most_samples + 1
+IsMet sample (Err (fails.Memory memory)) new = ⊥
