@@ -9,7 +9,7 @@ use std::test::Fail as Failed;
 /// A program of one segment with all three rights, as the GNU assembler makes it: `auipc x5, 0`, `addi x10, x0, 0`;
 /// three times `addi x10, x10, 1`, over which `lw x6, 40(x5)` and `sw x6, 8(x5)` write `addi x10, x10, 16`, with
 /// `addi x7, x7, 1`, `addi x8, x0, 3` and `blt x7, x8, -20`; and an exit with what x10 holds.
-static OWN: [u8; 128] = [
+pub(crate) static OWN: [u8; 128] = [
     127, 69, 76, 70, 1, 1, 1, 0, 0, 0, 0, 0, 0, 0, 0, 0, 2, 0, 243, 0, 1, 0, 0, 0, 0, 0, 1, 0, 52,
     0, 0, 0, 0, 0, 0, 0, 0, 0, 0, 0, 52, 0, 32, 0, 1, 0, 40, 0, 0, 0, 0, 0, 1, 0, 0, 0, 84, 0, 0,
     0, 0, 0, 1, 0, 0, 0, 1, 0, 44, 0, 0, 0, 44, 0, 0, 0, 7, 0, 0, 0, 4, 0, 0, 0, 151, 2, 0, 0, 19,
@@ -20,7 +20,7 @@ static OWN: [u8; 128] = [
 /// A program of a segment to read and execute, and in the same page, with no gap, one to read and write that
 /// holds 7: `auipc x5, 0`, `addi x10, x0, 0`; three times `lw x6, 40(x5)`, `add x10, x10, x6`, `addi x6, x6, 1`,
 /// `sw x6, 40(x5)`, with `addi x7, x7, 1`, `addi x8, x0, 3` and `blt x7, x8, -24`; and `sw x6, 0(x5)`, into the code.
-static BESIDE: [u8; 160] = [
+pub(crate) static BESIDE: [u8; 160] = [
     127, 69, 76, 70, 1, 1, 1, 0, 0, 0, 0, 0, 0, 0, 0, 0, 2, 0, 243, 0, 1, 0, 0, 0, 0, 0, 1, 0, 52,
     0, 0, 0, 0, 0, 0, 0, 0, 0, 0, 0, 52, 0, 32, 0, 2, 0, 40, 0, 0, 0, 0, 0, 1, 0, 0, 0, 116, 0, 0,
     0, 0, 0, 1, 0, 0, 0, 1, 0, 40, 0, 0, 0, 40, 0, 0, 0, 5, 0, 0, 0, 4, 0, 0, 0, 1, 0, 0, 0, 156,

@@ -1,7 +1,7 @@
 //! Steps of one hart, instruction by instruction.
 use crate::guests::{Trouble, guest, hart_at, space_of};
-use rv_hart::{Cause, Space, Stepped, step};
-use scope_types::Look;
+use rv_hart::{Cause, Space, Stepped, next_event, step};
+use scope_types::{Event, Look};
 use std::alloc::Global;
 use std::test::Fail;
 
@@ -33,6 +33,9 @@ fn other_result(space: &mut Space) -> Result<Option<&'static str>, Trouble> {
     let mut pc = CODE;
     for (name, _, x5, x6, x7) in &COMPUTED {
         let mut hart = hart_at(pc, *x5, *x6);
+        if next_event(&hart, space).is_some() {
+            return Ok(Some(name));
+        }
         let stepped = step(&mut hart, space)?;
         pc = pc.wrapping_add(4);
         if stepped != Stepped::Retired || hart.pc != pc || hart.regs[7] != *x7 {
@@ -55,12 +58,19 @@ fn target(pc: u32, taken: bool, back: bool) -> u32 {
     }
 }
 
-/// The first branch that leads elsewhere.
+fn event_of_branch(taken: bool) -> Option<Event> {
+    if taken { Some(Event::Taken) } else { None }
+}
+
+/// The first branch that leads elsewhere, or has another event.
 fn other_branch(space: &mut Space) -> Result<Option<&'static str>, Trouble> {
     let mut pc = CODE;
     let mut back = true;
     for (name, _, x5, x6, taken) in &BRANCHES {
         let mut hart = hart_at(pc, *x5, *x6);
+        if next_event(&hart, space) != event_of_branch(*taken) {
+            return Ok(Some(name));
+        }
         let stepped = step(&mut hart, space)?;
         if stepped != Stepped::Retired || hart.pc != target(pc, *taken, back) {
             return Ok(Some(name));
@@ -75,12 +85,15 @@ fn loads_and_stores_program(alloc: Global) -> Result<Vec<u8>, Trouble> {
     program!(alloc; &LOADS, &STORES)
 }
 
-/// Each load finds the pattern's bytes.
+/// Each load finds the pattern's bytes, and is one.
 fn other_load(space: &mut Space, data: u32) -> Result<Option<&'static str>, Trouble> {
     let _ = space.store(data, &PATTERN)?;
     let mut pc = CODE;
     for (name, _, x7) in &LOADS {
         let mut hart = hart_at(pc, data, 0);
+        if next_event(&hart, space) != Some(Event::Loads) {
+            return Ok(Some(name));
+        }
         let stepped = step(&mut hart, space)?;
         if stepped != Stepped::Retired || hart.regs[7] != *x7 {
             return Ok(Some(name));
@@ -100,12 +113,15 @@ fn four_words(space: &Space, at: u32) -> Option<[u32; 4]> {
     ])
 }
 
-/// Each store changes the pattern's bytes as it should, and no others.
+/// Each store changes the pattern's bytes as it should, and no others, and is one.
 fn other_store(space: &mut Space, data: u32) -> Result<Option<&'static str>, Trouble> {
     let mut pc = CODE.wrapping_add(104);
     for (name, _, after) in &STORES {
         let _ = space.store(data, &PATTERN)?;
         let mut hart = hart_at(pc, data, 0xa1b2_c3d4);
+        if next_event(&hart, space) != Some(Event::Stores) {
+            return Ok(Some(name));
+        }
         let stepped = step(&mut hart, space)?;
         if stepped != Stepped::Retired || four_words(space, data) != Some(*after) {
             return Ok(Some(name));
