@@ -1,76 +1,24 @@
 -- How many samples a run has.
-use Rattle.std.proofs.Common.{◌≡◌, ℕ, zero, suc, ◌+◌, ◌*◌, ◌/◌, ◌%◌, ◌<◌, ◌≤◌, ◌==◌, ◌&&◌, ◌⊎◌, inl, inr, Bool, true, false, cond, List, [], ◌∷◌, ◌++◌, length, map, filter, All, refl, sym, ap, subst, ◌∙◌, arith, mul-suc, mul-zero, mod-lt, mod-eq_of_lt, eqb-true}
-use Rattle.std.specs.List.{range_with_len}
-use Rattle.std.proofs.Math.Nat.{add-mod_right, div-add-mod, mul-add-mod_self_left}
-use Rattle.std.proofs.lemmas.Bool.{cases_lt}
-use Rattle.std.proofs.lemmas.List.{length-map}
+use Rattle.std.proofs.Common.{◌≡◌, ℕ, zero, suc, ◌+◌, ◌*◌, ◌/◌, ◌%◌, ◌<◌, ◌≤◌, ◌==◌, ◌&&◌, ◌⊎◌, inl, inr, Bool, true, false, cond, List, [], ◌∷◌, ◌++◌, length, map, All, refl, ap, ◌∙◌, arith, append_assoc, mul-suc, mul-zero, mod-lt, mod-eq_of_lt, eqb-true}
+use Rattle.std.specs.Prelude.{flat_map}
+use Rattle.std.proofs.Math.Nat.{add-mod_right, div-add-mod, mul-add, mul-add-mod_self_left}
+use Rattle.std.proofs.lemmas.Bool.{cases_lt, eq-eqb, ne_eqb}
+use Rattle.std.proofs.lemmas.Bool.Decides.{eqb_tells}
+use Rattle.std.proofs.lemmas.List.{append-nil, length-append}
 use Rattle.std.proofs.lemmas.List.Elements.{All-head, All-tail}
-use Rattle.std.proofs.lemmas.List.FromFn.{length-map-range_with_len}
-use Rattle.std.proofs.lemmas.List.Sums.{sum_by-cons}
+use Rattle.std.proofs.lemmas.List.Sums.{sum_by-append, sum_by-cons}
 use Rattle.elf_image.specs.Image.{ProgramImage}
+use Rattle.scope_types.specs.declared.event.Event.TheVariants.{Retired}
+use Rattle.scope_types.specs.declared.event.EventPeriod.{EventPeriod}
+use Rattle.scope_types.specs.Events.{retired_every}
 use Rattle.rv_run.specs.declared.schedule.Slice.{Slice}
-use Rattle.rv_run.specs.Schedule.{IsSchedule, IsSlice, Scheduled, instructions, slice_count}
-use Rattle.rv_run.specs.State.{HartState, MachineState, first_hart, first_state, hart_in, hart_of, is_running}
-use Rattle.rv_run.specs.Run.{Instant, Run, acts, finished, joined, next_instant, preceded, run_of, run_slice, run_slices, state_after}
+use Rattle.rv_run.specs.Schedule.{IsSchedule, Scheduled, instructions, slice_count}
+use Rattle.rv_run.specs.State.{MachineState, first_state, hart_of, is_running}
+use Rattle.rv_run.specs.Run.{Instant, finished, next_instant, preceded, run_of, run_slice, run_slices, state_after}
 use Rattle.rv_run.specs.Progress.{plus_one}
-use Rattle.rv_run.proofs.Counting.{acts-count}
-use Rattle.sample_clock.specs.Samples.{Paths, is_sampled, sample_of, samples}
-
--- ---- what is owed
-
--- the instructions that harts retired since their last samples
-since : ℕ → List HartState → ℕ
-since period [] = 0
-since period (h ∷ hs) = h.retired % period + since period hs
-
--- the period for an instruction that is sampled
-abbrev paid : ℕ → Instant → ℕ
-paid period i = cond (is_sampled period i) period 0
-
--- the same for all
-paid_for : ℕ → List Instant → ℕ
-paid_for period [] = 0
-paid_for period (i ∷ is) = paid period i + paid_for period is
-
-paid-append : (period : ℕ) (a b : List Instant) → paid_for period (a ++ b) ≡ paid_for period a + paid_for period b
-unfolding paid_for
-paid-append period [] b = omega arith
-paid-append period (i ∷ a) b = (let more = paid-append period a b in omega (arith, more))
-
-paid-samples : (period : ℕ) (is : List Instant) → paid_for period is ≡ period * length (filter (is_sampled period) is)
-unfolding paid_for
-paid-samples period [] = sym (mul-zero period)
-paid-samples period (i ∷ is) = by_test (is_sampled period i) (paid-samples period is)
-  where
-    by_test : (t : Bool) → paid_for period is ≡ period * length (filter (is_sampled period) is)
-        → cond t period 0 + paid_for period is ≡ period * length (cond t (i ∷ filter (is_sampled period) is) (filter (is_sampled period) is))
-    by_test true more = (let one = mul-suc period (length (filter (is_sampled period) is)) in omega (arith, more, one))
-    by_test false more = omega (arith, more)
-
--- ---- one hart of several
-
-since-same : (period : ℕ) (old new : List HartState) → length new ≡ length old → ((k : ℕ) → (hart_in new k).retired ≡ (hart_in old k).retired) → since period new ≡ since period old
-unfolding since
-since-same period [] [] long each = refl
-since-same period [] (n ∷ new) long each = absurd (omega arith)
-since-same period (o ∷ old) [] long each = absurd (omega arith)
-since-same period (o ∷ old) (n ∷ new) long each =
-    let first = ap (λ (r : ℕ). r % period) (each 0) in
-    let rest = since-same period old new (omega arith) (λ k. each (suc k)) in
-    omega (arith, first, rest)
-
-since-one : (period hart : ℕ) (old new : List HartState) → length new ≡ length old → hart < length old → ((k : ℕ) → ¬ (k ≡ hart) → (hart_in new k).retired ≡ (hart_in old k).retired)
-    → since period new + (hart_in old hart).retired % period ≡ since period old + (hart_in new hart).retired % period
-unfolding since
-since-one period hart [] new long within each = absurd (omega arith)
-since-one period hart (o ∷ old) [] long within each = absurd (omega arith)
-since-one period zero (o ∷ old) (n ∷ new) long within each =
-    let rest = since-same period old new (omega arith) (λ k. each (suc k) (λ e. omega arith)) in
-    omega (arith, rest)
-since-one period (suc hart) (o ∷ old) (n ∷ new) long within each =
-    let first = ap (λ (r : ℕ). r % period) (each 0 (λ e. omega arith)) in
-    let rest = since-one period hart old new (omega arith) (omega arith) (λ k other. each (suc k) (λ e. other (omega arith))) in
-    omega (arith, first, rest)
+use Rattle.rv_run.proofs.Ending.{instants_told}
+use Rattle.sample_clock.specs.declared.clock.Sample.{Sample}
+use Rattle.sample_clock.specs.Samples.{Paths, count_of, is_counted, none_earlier, placed, sample_of, samples, samples_at}
 
 -- ---- one instruction
 
@@ -89,7 +37,7 @@ next-remainder period r some =
           inr (next ∙ off ∙ ap (λ (n : ℕ). n % period) (let e : r % period + 1 ≡ 0 + period = omega arith in e) ∙ none, last)
     ]
 
--- what is paid for an instruction, by whether it retires
+-- a period for an instruction that is sampled, by whether it retires
 paid-step : (period r : ℕ) (retired : Bool) → 0 < period → cond (retired && ((r + 1) % period == 0)) period 0 + plus_one retired r % period ≤ r % period + 1
 paid-step period r false some = omega arith
 paid-step period r true some = elim (next-remainder period r some) [ inl up ↦ on_up up ((r + 1) % period == 0) refl | inr back ↦ on_back back.0 back.1 ((r + 1) % period == 0) ]
@@ -102,81 +50,148 @@ paid-step period r true some = elim (next-remainder period r some) [ inl up ↦ 
     on_back at last true = omega (arith, at, last)
     on_back at last false = omega (arith, at)
 
--- what a run leaves: as many harts, and what is owed rises by its instructions at most, less what is paid
-record Left (period count : ℕ) (s : MachineState) (run : Run) : Type 0 where
-  owed : paid_for period run.instants + since period run.final.harts ≤ since period s.harts + count
-  harts : length run.final.harts ≡ length s.harts
+-- ---- what is owed
 
-one-step : (period hart : ℕ) (s : MachineState) → 0 < period → hart < length s.harts → paid period (next_instant hart s) + since period (state_after hart s).harts ≤ since period s.harts + 1
-one-step period hart s some within =
-    let counts = acts-count hart s within in
-    let moved = since-one period hart s.harts (state_after hart s).harts counts.harts within counts.others in
-    let own : (hart_of (state_after hart s) hart).retired % period ≡ plus_one (acts hart s).retired (hart_of s hart).retired % period = ap (λ (n : ℕ). n % period) counts.own in
-    let step = paid-step period (hart_of s hart).retired (acts hart s).retired some in
-    omega (arith, moved, own, step)
+-- how many instructions a hart retired of these
+abbrev retired_of : ℕ → List Instant → ℕ
+retired_of hart instants = count_of Retired hart instants
 
-nothing-left : (period count : ℕ) (s : MachineState) → Left period count s (finished s)
-unfolding paid_for
-nothing-left period count s = record { owed = omega arith; harts = refl }
+-- those that the first harts retired since their last samples
+owed : ℕ → ℕ → List Instant → ℕ
+owed period zero instants = 0
+owed period (suc n) instants = retired_of n instants % period + owed period n instants
 
-one-left : (period count hart : ℕ) (s : MachineState) (rest : Run) → 0 < period → hart < length s.harts → Left period count (state_after hart s) rest → Left period (suc count) s (preceded (next_instant hart s ∷ []) rest)
-unfolding paid_for
-one-left period count hart s rest some within more =
-    let first = one-step period hart s some within in
-    let counts = acts-count hart s within in
-    record { owed = omega (arith, first, more.owed); harts = more.harts ∙ counts.harts }
+nothing-owed : (period n : ℕ) → 0 < period → owed period n [] ≡ 0
+unfolding owed
+nothing-owed period zero some = refl
+nothing-owed period (suc n) some =
+    let none : 0 % period ≡ 0 = mod-eq_of_lt some in
+    let more = nothing-owed period n some in
+    omega (arith, none, more)
 
-both-left : (period a b : ℕ) (s : MachineState) (first rest : Run) → Left period a s first → Left period b first.final rest → Left period (a + b) s (preceded first.instants rest)
-both-left period a b s first rest one more =
-    let parts = paid-append period first.instants rest.instants in
-    record { owed = omega (arith, parts, one.owed, more.owed); harts = more.harts ∙ one.harts }
+-- 1 where a test is true
+abbrev once : Bool → ℕ
+once test = cond test 1 0
 
--- ---- slices
+one-more : (hart : ℕ) (before : List Instant) (i : Instant) → retired_of hart (before ++ i ∷ []) ≡ retired_of hart before + once (is_counted Retired hart i)
+one-more hart before i =
+    let all = sum_by-append (λ (j : Instant). once (is_counted Retired hart j)) before (i ∷ []) in
+    let one = sum_by-cons (λ (j : Instant). once (is_counted Retired hart j)) i [] in
+    let none : retired_of hart [] ≡ 0 = refl in
+    omega (arith, all, one, none)
 
-in-slice : (period count hart : ℕ) (s : MachineState) → 0 < period → hart < length s.harts → Left period count s (run_slice count hart s)
+other-hart : (hart : ℕ) (before : List Instant) (i : Instant) → ¬ (i.moment.hart ≡ hart) → retired_of hart (before ++ i ∷ []) ≡ retired_of hart before
+other-hart hart before i apart =
+    let none : once (is_counted Retired hart i) ≡ 0 = ap (λ (t : Bool). once (t && (i.moment.retired && true))) (ne_eqb i.moment.hart hart apart) in
+    let all = one-more hart before i in
+    omega (arith, all, none)
+
+own-once : (b : Bool) (r : ℕ) → r + once (b && true) ≡ plus_one b r
+own-once true r = refl
+own-once false r = omega arith
+
+own-hart : (hart : ℕ) (before : List Instant) (i : Instant) → i.moment.hart ≡ hart → retired_of hart (before ++ i ∷ []) ≡ plus_one i.moment.retired (retired_of hart before)
+own-hart hart before i is =
+    one-more hart before i
+    ∙ ap (λ (t : Bool). retired_of hart before + once (t && (i.moment.retired && true))) (eq-eqb i.moment.hart hart is)
+    ∙ own-once i.moment.retired (retired_of hart before)
+
+others-owed : (period n : ℕ) (before : List Instant) (i : Instant) → n ≤ i.moment.hart → owed period n (before ++ i ∷ []) ≡ owed period n before
+unfolding owed
+others-owed period zero before i above = refl
+others-owed period (suc n) before i above =
+    let first = ap (λ (r : ℕ). r % period) (other-hart n before i (λ e. omega (arith, above, e))) in
+    let rest = others-owed period n before i (omega (arith, above)) in
+    omega (arith, first, rest)
+
+one-owed : (period n : ℕ) (before : List Instant) (i : Instant) → i.moment.hart < n
+    → owed period n (before ++ i ∷ []) + retired_of i.moment.hart before % period ≡ owed period n before + plus_one i.moment.retired (retired_of i.moment.hart before) % period
+unfolding owed
+one-owed period zero before i within = absurd (omega (arith, within))
+one-owed period (suc n) before i within = elim (eqb_tells i.moment.hart n) [ inl h ↦ here h.1 | inr h ↦ before_it h.1 (one-owed period n before i) ]
+  where
+    here : i.moment.hart ≡ n → owed period (suc n) (before ++ i ∷ []) + retired_of i.moment.hart before % period ≡ owed period (suc n) before + plus_one i.moment.retired (retired_of i.moment.hart before) % period
+    here is =
+        let own : retired_of n (before ++ i ∷ []) % period ≡ plus_one i.moment.retired (retired_of n before) % period = ap (λ (r : ℕ). r % period) (own-hart n before i is) in
+        let same : retired_of i.moment.hart before % period ≡ retired_of n before % period = ap (λ (h : ℕ). retired_of h before % period) is in
+        let more : plus_one i.moment.retired (retired_of i.moment.hart before) % period ≡ plus_one i.moment.retired (retired_of n before) % period = ap (λ (h : ℕ). plus_one i.moment.retired (retired_of h before) % period) is in
+        let rest = others-owed period n before i (omega (arith, is)) in
+        omega (arith, own, same, more, rest)
+
+    before_it : ¬ (i.moment.hart ≡ n)
+        → (i.moment.hart < n → owed period n (before ++ i ∷ []) + retired_of i.moment.hart before % period ≡ owed period n before + plus_one i.moment.retired (retired_of i.moment.hart before) % period)
+        → owed period (suc n) (before ++ i ∷ []) + retired_of i.moment.hart before % period ≡ owed period (suc n) before + plus_one i.moment.retired (retired_of i.moment.hart before) % period
+    before_it apart rest =
+        let first = ap (λ (r : ℕ). r % period) (other-hart n before i apart) in
+        let less : i.moment.hart < n = elim (cases_lt i.moment.hart n) [ inl below ↦ below | inr above ↦ absurd (apart (let same : i.moment.hart ≡ n = omega (arith, within, above) in same)) ] in
+        let more = rest less in
+        omega (arith, first, more)
+
+-- ---- many instructions
+
+module _ (path_of : Paths) (period : ℕ) (some : 0 < period) where
+  -- the samples of an instruction, of which there is one at most
+  abbrev here : List Instant → Instant → List Sample
+  here before i = samples_at path_of none_earlier (retired_every period) (record { before = before; instant = i })
+
+  count-here : (before : List Instant) (i : Instant) → period * length (here before i) ≡ cond (i.moment.retired && ((retired_of i.moment.hart before + 1) % period == 0)) period 0
+  count-here before i =
+      ap (λ (n : ℕ). period * length (map (sample_of path_of i) (map (λ (e : ℕ × EventPeriod). e.0) (cond ((i.moment.retired && true) && ((n + 1) % period == 0)) ((0, record { event = Retired; period = period }) ∷ []) []))))
+      (let same : 0 + retired_of i.moment.hart before ≡ retired_of i.moment.hart before = omega arith in same)
+      ∙ by_test i.moment.retired ((retired_of i.moment.hart before + 1) % period == 0)
+    where
+      by_test : (r t : Bool) → period * length (map (sample_of path_of i) (map (λ (e : ℕ × EventPeriod). e.0) (cond ((r && true) && t) ((0, record { event = Retired; period = period }) ∷ []) []))) ≡ cond (r && t) period 0
+      by_test true true = (let one = mul-suc period 0 in let none = mul-zero period in omega (arith, one, none))
+      by_test true false = mul-zero period
+      by_test false t = mul-zero period
+
+  all-owed : (n : ℕ) (before xs : List Instant) → All (λ (i : Instant). i.moment.hart < n) xs
+      → period * length (flat_map (samples_at path_of none_earlier (retired_every period)) (placed before xs)) + owed period n (before ++ xs) ≤ owed period n before + length xs
+  unfolding placed
+  all-owed n before [] within =
+      let none = mul-zero period in
+      let same = ap (owed period n) (append-nil before) in
+      omega (arith, none, same)
+  all-owed n before (i ∷ xs) within =
+      let rest = all-owed n (before ++ i ∷ []) xs (All-tail (λ (j : Instant). j.moment.hart < n) i xs within) in
+      let moved = one-owed period n before i (All-head (λ (j : Instant). j.moment.hart < n) i xs within) in
+      let paid = paid-step period (retired_of i.moment.hart before) i.moment.retired some in
+      let one = count-here before i in
+      let long : length (here before i ++ flat_map (samples_at path_of none_earlier (retired_every period)) (placed (before ++ i ∷ []) xs)) ≡ length (here before i) + length (flat_map (samples_at path_of none_earlier (retired_every period)) (placed (before ++ i ∷ []) xs)) =
+      length-append (here before i) (flat_map (samples_at path_of none_earlier (retired_every period)) (placed (before ++ i ∷ []) xs)) in
+      let times = ap (λ (k : ℕ). period * k) long in
+      let split = mul-add period (length (here before i)) (length (flat_map (samples_at path_of none_earlier (retired_every period)) (placed (before ++ i ∷ []) xs))) in
+      let same = ap (owed period n) (append_assoc before (i ∷ []) xs) in
+      omega (arith, rest, moved, paid, one, times, split, same)
+
+-- ---- a run
+
+slice-long : (count hart : ℕ) (s : MachineState) → length (run_slice count hart s).instants ≤ count
 unfolding run_slice
-in-slice period zero hart s some within = nothing-left period 0 s
-in-slice period (suc count) hart s some within =
-    let counts = acts-count hart s within in
-    let after : hart < length (state_after hart s).harts = subst (λ (n : ℕ). hart < n) (sym counts.harts) within in
-    let rest : Run = run_slice count hart (state_after hart s) in
-    let more = one-left period count hart s (run_slice count hart (state_after hart s)) some within (in-slice period count hart (state_after hart s) some after) in
-    elim (is_running (hart_of s hart)) as (λ t. Left period (suc count) s (cond t (preceded (next_instant hart s ∷ []) (run_slice count hart (state_after hart s))) (finished s)))
-    [ true ↦ more | false ↦ nothing-left period (suc count) s ]
+slice-long zero hart s = omega arith
+slice-long (suc count) hart s =
+    let more = slice-long count hart (state_after hart s) in
+    elim (is_running (hart_of s hart)) as (λ t. length (cond t (preceded (next_instant hart s ∷ []) (run_slice count hart (state_after hart s))) (finished s)).instants ≤ suc count)
+    [ true ↦ omega (arith, more) | false ↦ omega arith ]
 
 pub instructions-cons : (slice : Slice) (slices : List Slice) → instructions (slice ∷ slices) ≡ slice.count + instructions slices
 instructions-cons slice slices = sum_by-cons (λ n. n) slice.count (map slice_count slices)
 
-in-slices : (period harts : ℕ) (slices : List Slice) (s : MachineState) → 0 < period → length s.harts ≡ harts → All (IsSlice harts) slices → Left period (instructions slices) s (run_slices slices s)
+slices-long : (slices : List Slice) (s : MachineState) → length (run_slices slices s).instants ≤ instructions slices
 unfolding run_slices
-in-slices period harts [] s some long each = nothing-left period 0 s
-in-slices period harts (slice ∷ slices) s some long each =
-    let own = All-head (IsSlice harts) slice slices each in
-    let within : slice.hart < length s.harts = subst (λ (n : ℕ). slice.hart < n) (sym long) own.hart in
-    let one = in-slice period slice.count slice.hart s some within in
-    let more = in-slices period harts slices (run_slice slice.count slice.hart s).final some (one.harts ∙ long) (All-tail (IsSlice harts) slice slices each) in
-    subst (λ (n : ℕ). Left period n s (joined (run_slice slice.count slice.hart s) (run_slices slices))) (sym (instructions-cons slice slices))
-    (both-left period slice.count (instructions slices) s (run_slice slice.count slice.hart s) (run_slices slices (run_slice slice.count slice.hart s).final) one more)
-
--- ---- a whole run
-
-nothing-since : (period entry harts : ℕ) (ks : List ℕ) → 0 < period → since period (map (first_hart entry harts) ks) ≡ 0
-unfolding since
-nothing-since period entry harts [] some = refl
-nothing-since period entry harts (k ∷ ks) some =
-    let none : 0 % period ≡ 0 = mod-eq_of_lt some in
-    let more = nothing-since period entry harts ks some in
-    omega (arith, none, more)
+slices-long [] s = omega arith
+slices-long (slice ∷ slices) s =
+    let one = slice-long slice.count slice.hart s in
+    let more = slices-long slices (run_slice slice.count slice.hart s).final in
+    let all = instructions-cons slice slices in
+    let long = length-append (run_slice slice.count slice.hart s).instants (run_slices slices (run_slice slice.count slice.hart s).final).instants in
+    omega (arith, one, more, all, long)
 
 pub few-samples : (path_of : Paths) (period : ℕ) (image : ProgramImage) (schedule : Scheduled) (input : List ℕ) → 0 < period → IsSchedule schedule
-    → period * length (samples path_of period (run_of image schedule input).instants) ≤ instructions schedule.slices
+    → period * length (samples path_of (retired_every period) (run_of image schedule input).instants) ≤ instructions schedule.slices
 few-samples path_of period image schedule input some is =
-    let s : MachineState = first_state image schedule.harts input in
-    let run : Run = run_of image schedule input in
-    let long : length (first_state image schedule.harts input).harts ≡ schedule.harts = length-map-range_with_len (first_hart image.entry schedule.harts) 0 schedule.harts in
-    let left = in-slices period schedule.harts schedule.slices (first_state image schedule.harts input) some long is.slices in
-    let none = nothing-since period image.entry schedule.harts (range_with_len 0 schedule.harts) some in
-    let paid = paid-samples period (run_of image schedule input).instants in
-    let many : length (samples path_of period (run_of image schedule input).instants) ≡ length (filter (is_sampled period) (run_of image schedule input).instants) = length-map (filter (is_sampled period) (run_of image schedule input).instants) (sample_of path_of) in
-    let same = ap (λ (n : ℕ). period * n) many in
-    omega (arith, left.owed, none, paid, same)
+    let long = slices-long schedule.slices (first_state image schedule.harts input) in
+    let within = instants_told image schedule input schedule.harts (first_state image schedule.harts input) schedule.slices is refl refl refl in
+    let none = nothing-owed period schedule.harts some in
+    let all = all-owed path_of period some schedule.harts [] (run_of image schedule input).instants within in
+    omega (arith, long, none, all)

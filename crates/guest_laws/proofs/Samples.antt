@@ -3,6 +3,7 @@ use Rattle.std.proofs.Common.{ℕ, ◌*◌, ◌≤◌, List, [], ◌∷◌, leng
 use Rattle.std.specs.List.{range_with_len}
 use Rattle.std.proofs.lemmas.List.Elements.{All-cons, All-nil}
 use Rattle.std.proofs.lemmas.List.FromFn.{length-range_with_len}
+use Rattle.scope_types.specs.Events.{retired_every}
 use Rattle.rv_run.specs.Schedule.{IsSchedule, IsSlice, instructions}
 use Rattle.rv_run.specs.Run.{run_of}
 use Rattle.sample_clock.specs.Samples.{Paths, samples}
@@ -47,7 +48,7 @@ is-schedule number =
       instructions = omega (arith, all);
     }
 
-pub guests-have-few-samples : (number : ℕ) (path_of : Paths) → length (samples path_of (guest_of number).period (run_of (guest_image number) (guest_scheduled number) (guest_of number).input).instants) ≤ most_guest_samples
+pub guests-have-few-samples : (number : ℕ) (path_of : Paths) → length (samples path_of (retired_every (guest_of number).period) (run_of (guest_image number) (guest_scheduled number) (guest_of number).input).instants) ≤ most_guest_samples
 guests-have-few-samples number path_of =
     let all = slices-short (draw_state (3 * function_count) number) slices in
     let few = few-samples path_of 97 (guest_image number) (guest_scheduled number) (guest_of number).input (omega arith) (is-schedule number) in

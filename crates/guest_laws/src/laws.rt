@@ -9,6 +9,7 @@ ghost use Rattle.dwarf_info.specs.Units.{DebugInfo, debug_info_of};
 ghost use Rattle.dwarf_line.specs.Names.{Texts};
 ghost use Rattle.dwarf_line.specs.Lines.{Lines, lines_at};
 ghost use Rattle.dwarf_inline.specs.Structure.{structure_of};
+ghost use Rattle.scope_types.specs.Events.{retired_every};
 ghost use Rattle.rv_run.specs.Run.{run_of};
 ghost use Rattle.rv_run.specs.Schedule.{IsSchedule, Scheduled, instructions, schedule_of};
 ghost use Rattle.sample_clock.specs.Samples.{Paths, samples};
@@ -58,19 +59,19 @@ pub fn absent_debug_information_is_read()
         → info.entries ≡ [] → structure_of info lines image ≡ Ok no_structure }
 {}
 
-/// A run has at most one sample for each `period` instructions of its schedule's slices, whatever the program, the
-/// input and the call paths are.
+/// A run has at most one sample of retired for each `period` instructions of its schedule's slices, whatever the
+/// program, the input and the call paths are.
 pub fn runs_have_few_samples()
     ensures { (path_of : Paths) (period : ℕ) (image : ProgramImage) (schedule : Scheduled)
         (input : List ℕ) → 0 < period → IsSchedule schedule
-        → period * length (samples path_of period (run_of image schedule input).instants)
+        → period * length (samples path_of (retired_every period) (run_of image schedule input).instants)
         ≤ instructions schedule.slices }
 {}
 
-/// The run of a guest has at most 41,113 samples, and no more than a run may have.
+/// The run of a guest, sampled each period of retired instructions that the guest has, has at most 41,113 samples.
 pub fn guests_have_few_samples()
     ensures { (number : ℕ) (path_of : Paths)
-        → length (samples path_of (guest_of number).period
+        → length (samples path_of (retired_every (guest_of number).period)
         (run_of (guest_image number) (guest_scheduled number) (guest_of number).input).instants)
         ≤ most_guest_samples }
 {}

@@ -21,9 +21,9 @@ pub record Since : Type 0 where
   pub stores : ℕ
   pub taken : ℕ
 
--- a machine that is sampled; the events with their periods; how many of these each hart had since their last samples; the
--- samples of the last instruction that were not given yet; and how many samples were met so far: those that were given,
--- and one more where that is too many
+-- a machine that is sampled; the events with their periods; how many of these each hart had since their last samples;
+-- the samples of the last instruction that were not given yet; and how many samples were met so far: those that were
+-- given, and one more where that is too many
 pub record Sampling : Type 0 where
   pub machine : Progress
   pub events : List EventPeriod

@@ -97,7 +97,8 @@ samples path_of events instants = samples_after path_of none_earlier events inst
 -- ---- what each sample is
 
 -- a sample of one of these instructions, for one of the events
-pub record IsSampleOf (path_of : Paths) (events : List EventPeriod) (instants : List Instant) (s : Sample) : Type 0 where
+pub record IsSampleOf (path_of : Paths) (events : List EventPeriod) (instants : List Instant)
+    (s : Sample) : Type 0 where
   pub instant : Instant
   pub own : Contains instants instant
   pub is : s ≡ sample_of path_of instant s.event

@@ -1,12 +1,13 @@
 //! The clock that counts instructions down to the next sample of each event.
-ghost use Rattle.std.specs.Prelude.{◌≡◌, ◌≢◌, ◌<◌, ◌≤◌, ◌+◌, ◌∷◌, [], IfOk, IfSome, OnErr, false, length, true};
+ghost use Rattle.std.specs.Prelude.{◌≡◌, ◌≢◌, ◌<◌, ◌≤◌, ◌+◌, [], IfOk, OnErr, false, length, true};
 ghost use Rattle.scope_types.specs.Events.{AreEvents, is_retired_alone};
 ghost use Rattle.scope_types.specs.Limits.{most_samples};
 ghost use Rattle.rv_run.specs.State.{hart_of};
 ghost use Rattle.rv_run.specs.Progress.{IsFresh, to_come};
 ghost use Rattle.sample_clock.specs.Samples.{Paths, samples, words_of};
 ghost use Rattle.sample_clock.specs.Clock.{AnswersNext, Reaches, samples_to_come};
-ghost use Rattle.sample_clock.specs.private.Advance.{Advances, CarriedOut, IsComing, IsMet, places_of, with_one_met};
+ghost use Rattle.sample_clock.specs.private.Advance.{Advances, CarriedOut, IsComing, IsMet};
+ghost use Rattle.sample_clock.specs.private.Advance.{places_of, with_one_met};
 ghost use Rattle.sample_clock.specs.private.Countdown.{IsUntil};
 
 use crate::coming::{Coming, samples_of};
@@ -42,10 +43,10 @@ enum Advance {
     Sampled(Sample),
 }
 
-/// A machine that is sampled; the events, the period of retired if it is one of them, and whether it is the only one; how
-/// many loads, stores and taken branches there may be between samples; for each hart the ordinal of its next sample of
-/// retired, and how many of the others are left before a sample; the second sample of the last instruction; and a list
-/// for the frames of the next path.
+/// A machine that is sampled; the events, the period of retired if it is one of them, and whether it is the only
+/// one; how many loads, stores and taken branches there may be between samples; for each hart the ordinal of its next
+/// sample of retired, and how many of the others are left before a sample; the second sample of the last instruction;
+/// and a list for the frames of the next path.
 #[derive(Drop)]
 pub struct Samples<'a> {
     machine: Machine<'a>,
@@ -76,7 +77,8 @@ impl<'a> Model for Samples<'a> {
       met = s.met;
     } };
 
-    ghost invariant = { λ s. IsClock s.machine.state s.events.items s.retired s.is_alone s.full s.next s.left
+    ghost invariant = { λ s.
+        IsClock s.machine.state s.events.items s.retired s.is_alone s.full s.next s.left
         × (s.met ≤ most_samples + 1) };
 }
 
@@ -101,7 +103,8 @@ fn path_before<U: Unwind>(
 }
 
 impl<'a> Samples<'a> {
-    /// The samples of a machine that has not begun: of each event, one each period of a hart's instructions that have it.
+    /// The samples of a machine that has not begun: of each event, one each period of a hart's instructions that
+    /// have it.
     pub fn start(machine: Machine<'a>, periods: Vec<EventPeriod>) -> Samples<'a>
         requires events { AreEvents periods.items }
         requires fresh { IsFresh machine.state }
@@ -144,7 +147,7 @@ impl<'a> Samples<'a> {
     /// Carries out the instruction that comes next, and says whether it retired.
     fn carry_out(&mut self, coming: &Coming) -> Result<bool, Memory>
         requires { IsComing coming.now self.old }
-        ensures ok { IfOk result (λ is_retired. CarriedOut coming.now is_retired self.old self.new) }
+        ensures ok { IfOk result (λ retired. CarriedOut coming.now retired self.old self.new) }
         ensures err { OnErr result (self.new ≡ self.old) }
     {
         let Some(moment) = self.machine.next()? else {
@@ -270,10 +273,10 @@ impl<'a> Samples<'a> {
         Err(Fail::Fault(TooManySamples))
     }
 
-    /// The next sample; `None` exactly where the run has ended and none is left. An instruction that is sampled for two
-    /// events has two, one after the other. `TooManySamples` comes exactly at the 1,048,577th sample, and again from then
-    /// on; the machine is then after that sample's instruction. After `Memory` it is before the instruction for which
-    /// none was found, and no sample is lost.
+    /// The next sample; `None` exactly where the run has ended and none is left. An instruction that is sampled for
+    /// two events has two, one after the other. `TooManySamples` comes exactly at the 1,048,577th sample, and again from
+    /// then on; the machine is then after that sample's instruction. After `Memory` it is before the instruction for
+    /// which none was found, and no sample is lost.
     pub fn next<U: Unwind>(&mut self, unwinder: &U) -> Result<Option<Sample>, Fail<TooManySamples>>
         ensures answer { AnswersNext (U.path_of unwinder.now) result self.old self.new }
         ensures reached { Reaches (U.path_of unwinder.now) result self.old self.new }

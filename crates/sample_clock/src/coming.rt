@@ -6,9 +6,10 @@ use crate::clock::Sample;
 use prof_bytes::Memory;
 use scope_types::{Event, RawPath};
 
-/// The instruction that comes next: its hart, its address, and the number that it gets if it retires; the event that it
-/// has beside retired, which is looked up only where an event other than retired is sampled; whether it is sampled for
-/// retired, which has the first place in the list of events; and the place of the other event, if it is sampled for one.
+/// The instruction that comes next: its hart, its address, and the number that it gets if it retires; the event that
+/// it has beside retired, which is looked up only where an event other than retired is sampled; whether it is sampled
+/// for retired, which has the first place in the list of events; and the place of the other event, if it is sampled for
+/// one.
 #[derive(Clone, Copy, Debug)]
 pub(crate) struct Coming {
     pub(crate) hart: u32,

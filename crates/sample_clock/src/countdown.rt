@@ -2,8 +2,9 @@
 ghost use Rattle.std.specs.Prelude.{◌≡◌, ◌≤◌, ◌<◌, ◌+◌, ◌^◌, IfSome, length};
 ghost use Rattle.rv_run.specs.Schedule.{most_instructions};
 ghost use Rattle.scope_types.specs.Events.{is_retired_alone};
-ghost use Rattle.sample_clock.specs.private.Countdown.{full_of, is_used_up, left_after, left_for, next_after};
-ghost use Rattle.sample_clock.specs.private.Countdown.{one_less, place_from, place_of, retired_period, used_up};
+ghost use Rattle.sample_clock.specs.private.Countdown.{full_of, is_used_up, left_after, left_for};
+ghost use Rattle.sample_clock.specs.private.Countdown.{next_after, one_less, place_from, place_of};
+ghost use Rattle.sample_clock.specs.private.Countdown.{retired_period, used_up};
 
 use rv_hart::EventsLeft;
 use scope_types::{Event, EventPeriod};

@@ -94,19 +94,21 @@ place_of (Some event) events = place_from event 0 events
 
 -- ---- all of them
 
--- how many of each event a hart had since its last sample, by how many there may be between samples and how many are left
+-- how many of each event a hart had since its last sample, by how many there may be between samples and how many are
+-- left
 abbrev pub since_of : EventsLeft → EventsLeft → Since
 since_of full left =
     record { loads = full.loads - left.loads; stores = full.stores - left.stores; taken = full.taken - left.taken }
 
 -- what is left of an event is at most what there may be, and lacks at most what the hart retired
-pub record IsLeft (s : MachineState) (full : EventsLeft) (left : List EventsLeft) (hart : ℕ) (event : Event) : Type 0 where
+pub record IsLeft (s : MachineState) (full : EventsLeft) (left : List EventsLeft) (hart : ℕ)
+    (event : Event) : Type 0 where
   pub low : left_of full event ≤ left_of (slice_index_or left hart full) event + (hart_of s hart).retired
   pub high : left_of (slice_index_or left hart full) event ≤ left_of full event
 
 -- a clock knows what each hart lacks of each event until the next sample
-pub record IsClock (s : MachineState) (events : List EventPeriod) (retired : Option ℕ) (is_alone : Bool) (full : EventsLeft)
-    (next : List ℕ) (left : List EventsLeft) : Type 0 where
+pub record IsClock (s : MachineState) (events : List EventPeriod) (retired : Option ℕ) (is_alone : Bool)
+    (full : EventsLeft) (next : List ℕ) (left : List EventsLeft) : Type 0 where
   pub are : AreEvents events
   pub retired_is : retired ≡ retired_period events
   pub alone : is_alone ≡ is_retired_alone events
