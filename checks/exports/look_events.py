@@ -1,13 +1,22 @@
 """Databases of several events: each format of each event, the page's choice of one, and what is refused, beside plain
 counts of the event's samples."""
+import re
+import subprocess
 import sys
 
 import databases
 from exporter import TOP, complain, export, exported, same
 from look_controls import LATER, tables_are
-from look_formats import callgrind_events, look_at_callgrind, look_at_folded, look_at_speedscope
+from look_formats import (
+    callgrind_events,
+    folded_lines,
+    look_at_callgrind,
+    look_at_folded,
+    look_at_speedscope,
+    read_callgrind,
+)
 from look_nodes import look_at_nodes
-from look_page import page_columns
+from look_page import frame_costs, page_columns, page_rows
 
 # Callgrind's names, and what the page says.
 COSTS = ("Instructions", "Loads", "Stores", "TakenBranches")
@@ -102,6 +111,32 @@ def look_at_event_link(window, name, page, events):
     same(f"{name}: a link's event", window.run("return view.shown.event;"), last)
     window.open(page, fragment="#event=branches")
     same(f"{name}: a link's event that isn't there", window.run("return view.shown.event;"), 0)
+
+
+# ---- an example, by the program
+
+
+def look_at_event_examples(window, program, folder):
+    """The tables of a report of several events, each beside the formats of its event."""
+    files = [TOP / "examples" / "histogram" / file for file in ("program", "input", "schedule")]
+    database, page = folder / "histogram.db", folder / "histogram.html"
+    words = [program, "profile", *files, "retired:97,loads:3,stores:11,taken:31", "1", database]
+    report = subprocess.run(words, capture_output=True).stdout.decode()
+    exported(database, "html", "-o", page, "--source", TOP)
+    if window:
+        window.open(page)
+    parts = re.split(r"^event (\w+) period \d+ samples \d+ total (\d+)$", report, flags=re.M)[1:]
+    same("histogram: the report's events", parts[::3], list(databases.EVENTS))
+    for place, (event, total, table) in enumerate(zip(parts[::3], parts[1::3], parts[2::3])):
+        rows = table.splitlines()[2:]
+        sums = sum(folded_lines(exported(database, "folded", "--event", event)).values())
+        same(f"histogram, {event}: folded sum", sums, int(total))
+        own, _, _, _ = read_callgrind(exported(database, "callgrind"), place)
+        same(f"histogram, {event}: callgrind beside the printed frame costs", own, frame_costs(rows))
+        if window:
+            found = window.run(f"view.setEvent({place}); return hpc.table('top');")
+            same(f"histogram, {event}: the page beside the printed table", page_rows(found), rows)
+    yield page
 
 
 # ---- malformed ones

@@ -160,8 +160,8 @@ def callgrind_events(text):
 
 
 def read_callgrind(text, place=0):
-    """Each function's own cost, its calls' inclusive cost, the file of each of its costs, and the totals, of the event at
-    this place in the list of events."""
+    """Each function's own cost, its calls' inclusive cost, the file of each of its costs, and the totals; of the event
+    at this place in the list of events."""
     names, own, calls, files, totals = {}, defaultdict(int), defaultdict(int), defaultdict(set), {}
     from_end = place - len(callgrind_events(text))
     function = file = called = None
@@ -219,8 +219,8 @@ def look_at_annotated(name, database, frame, *words, place=0):
         file.write(written)
         file.flush()
         event = callgrind_events(written)[place]
-        annotate = ["callgrind_annotate", "--threshold=100", "--auto=no", f"--show={event}", f"--sort={event}", file.name]
-        done = subprocess.run(annotate, capture_output=True)
+        shown = ["--threshold=100", "--auto=no", f"--show={event}", f"--sort={event}"]
+        done = subprocess.run(["callgrind_annotate", *shown, file.name], capture_output=True)
     found = defaultdict(int)
     text = done.stdout.decode(errors="replace")
     for cost, row in re.findall(r"^ *([\d,]+) \([ \d.]+%\)  (.*?)(?: \[\])?$", text, re.M):

@@ -4,11 +4,24 @@ import json
 import re
 import struct
 import zlib
+from collections import defaultdict
 
 import databases
 from exporter import complain, exported, printed, same
 
 CALLERS_DEPTH = 2
+
+
+def frame_costs(rows):
+    """Each procedure's frame cost in a printed top-down table: procedures stand below roots and calls."""
+    costs, above = defaultdict(int), []
+    for row in rows:
+        value, indent, label = re.match(r" *\d+ +\d+\.\d +(\d+)  ((?:  )*)(.*)$", row).groups()
+        level = len(indent) // 2
+        if level == 1 or level > 1 and above[level - 1].startswith("call at "):
+            costs[label] += int(value)
+        above[level:] = [label]
+    return {label: cost for label, cost in costs.items() if cost}
 
 
 def page_columns(text):
