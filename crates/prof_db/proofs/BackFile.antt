@@ -5,75 +5,47 @@ use Rattle.std.proofs.lemmas.Bool.{ltb-false}
 use Rattle.std.proofs.lemmas.List.{length-map, nil_from_length}
 use Rattle.prof_bytes.specs.Number.{IsBytes, words}
 use Rattle.prof_bytes.specs.Reading.{At, left_of}
-use Rattle.tree_types.specs.declared.content.Content.{Content}
+use Rattle.scope_types.specs.Columns.{columns_of}
+use Rattle.tree_types.specs.declared.content.EventContent.{EventContent}
 use Rattle.tree_types.specs.declared.content.Names.{Names}
 use Rattle.prof_db.specs.declared.raw.Head.{Head}
 use Rattle.prof_db.specs.declared.raw.Layout.{Layout}
-use Rattle.prof_db.specs.declared.raw.RawEntry.{RawEntry}
-use Rattle.prof_db.specs.declared.raw.RawFile.{RawFile}
-use Rattle.prof_db.specs.declared.raw.RawNode.{RawNode}
-use Rattle.prof_db.specs.declared.raw.RawProc.{RawProc}
 use Rattle.prof_bytes.specs.Repeated.{adding, times}
-use Rattle.prof_db.specs.Fields.{fault, not_whole}
-use Rattle.prof_db.specs.Layout.{body_from, list_from, file_from, head_from, layout_in, node_from, past_list, proc_from}
+use Rattle.prof_db.specs.declared.raw.Version.{Version}
+use Rattle.prof_db.specs.Fields.{not_whole}
+use Rattle.prof_db.specs.Layout.{after_magic, body_from, list_from, file_from, node_from, past_list, proc_from}
 use Rattle.prof_db.specs.NameRules.{file_name, names_in, raw_proc_name, used_files, used_procs}
 use Rattle.prof_db.specs.NodeRules.{in_range, node_of}
-use Rattle.prof_db.specs.Rules.{database_in}
-use Rattle.prof_db.specs.Spelling.{database_magic, context_entry_bytes, node_bytes, profile_entry_bytes, database_spelling, with_count}
+use Rattle.prof_db.specs.Rules.{events_in}
+use Rattle.prof_db.specs.Spelling.{database_magic, context_entry_bytes, head_numbers, node_bytes, profile_entry_bytes, events_spelling, shared_bytes, version_of, with_count}
 use Rattle.prof_db.specs.ValueRules.{context_fields, plane_fields, profile_fields}
-use Rattle.prof_bytes.specs.Format.{magic_or}
 use Rattle.prof_bytes.proofs.Lists.{list_took}
-use Rattle.prof_bytes.proofs.Took.{Took, behind, bytes_on, given, magic_took, took_both}
-use Rattle.prof_db.proofs.BackItems.{word_behind, file_back, node_back, proc_back, raw_file_bytes, raw_node_bytes, raw_proc_bytes}
+use Rattle.prof_bytes.proofs.Took.{Took, bytes_on, took_both}
+use Rattle.prof_db.proofs.BackItems.{file_back, node_back, proc_back, raw_file_bytes, raw_node_bytes, raw_proc_bytes}
 use Rattle.prof_db.proofs.BackNames.{files_spelled, nodes_spelled, procs_spelled}
 use Rattle.prof_db.proofs.BackPlanes.{list_moved, lists_end, context_bytes, field_bytes, fields_took, past_list_moved, profile_bytes}
 use Rattle.prof_db.proofs.Contents.{contexts_long, profiles_long}
+use Rattle.prof_db.proofs.Headed.{IsHeaded, IsRead, head_took, made_of, raw_counts, raw_head_bytes, raw_head_numbers, read}
+use Rattle.prof_db.proofs.Heads.{not_elsewhere, numbers_few}
+use Rattle.prof_db.proofs.Versions.{numbers_of, version_again, version_took}
 use Rattle.prof_bytes.proofs.Outcomes.{bind_ok, guard_ok, ok_same}
 use Rattle.prof_db.proofs.Owned.{ranged}
 use Rattle.prof_db.proofs.OwnNames.{files_up, procs_up}
 use Rattle.prof_db.proofs.Passed.{Passed, own_content, own_nodes, passed}
 
--- ---- the head
-
-abbrev head_numbers : Head → List ℕ
-head_numbers h = h.period ∷ h.columns ∷ h.procs ∷ h.files ∷ h.nodes ∷ []
-
-head_back : (at next : At) (h : Head) → IsBytes at.whole → head_from at ≡ Ok (h, next) → Took at next (words (head_numbers h))
-unfolding head_from
-head_back at next h bytes is =
-    let a = word_behind at _ _ bytes is in
-    let b = word_behind a.next _ _ a.bytes a.is in
-    let c = word_behind b.next _ _ b.bytes b.is in
-    let d = word_behind c.next _ _ c.bytes c.is in
-    let e = word_behind d.next _ _ d.bytes d.is in
-    let made : Head = record { period = a.value; columns = b.value; procs = c.value; files = d.value; nodes = e.value } in
-    given (λ h next. Took at next (words (head_numbers h))) made h e.next next e.is (took_both a.took (took_both b.took (took_both c.took (took_both d.took e.took))))
-
 -- ---- the lists, and the planes
-
-abbrev pub made_of : Head → List RawProc → List RawFile → List RawNode → List RawEntry → At → At → Layout
-made_of head procs files nodes entries profiles contexts = record {
-  period = head.period;
-  columns = head.columns;
-  procs = procs;
-  files = files;
-  nodes = nodes;
-  entries = entries;
-  profiles = profiles;
-  contexts = contexts;
-}
 
 abbrev lists_bytes : Layout → List ℕ
 lists_bytes layout = flat_map raw_proc_bytes layout.procs ++ (flat_map raw_file_bytes layout.files ++ flat_map raw_node_bytes layout.nodes)
 
 record BodyBack (head : Head) (at : At) (layout : Layout) : Type 0 where
-  period : layout.period ≡ head.period
-  columns : layout.columns ≡ head.columns
+  events : layout.events ≡ head.events
+  runs : layout.runs ≡ head.runs
   procs : length layout.procs ≡ head.procs
   files : length layout.files ≡ head.files
   nodes : length layout.nodes ≡ head.nodes
   took : Took at layout.profiles (lists_bytes layout)
-  lists : times list_from head.columns 0 [] layout.profiles ≡ Ok (layout.entries, layout.contexts)
+  lists : times list_from (columns_of (length head.events) head.runs) 0 [] layout.profiles ≡ Ok (layout.entries, layout.contexts)
   behind_all : At
   past : times past_list head.nodes 0 tt layout.contexts ≡ Ok (tt, behind_all)
   none : left_of behind_all ≡ []
@@ -89,14 +61,14 @@ body_back head at layout bytes is =
     let bytes2 = bytes_on files.1 bytes1 in
     let c = bind_ok (times (adding node_from) head.nodes 0 [] b.0.1) _ _ b.2 in
     let nodes = list_took node_from raw_node_bytes node_back head.nodes c.0.0 b.0.1 c.0.1 bytes2 c.1 in
-    let d = bind_ok (times list_from head.columns 0 [] c.0.1) _ _ c.2 in
+    let d = bind_ok (times list_from (columns_of (length head.events) head.runs) 0 [] c.0.1) _ _ c.2 in
     let made : Layout = made_of head a.0.0 b.0.0 c.0.0 d.0.0 c.0.1 d.0.1 in
     let e = bind_ok (times past_list head.nodes 0 tt d.0.1) _ _ d.2 in
     let whole = guard_ok (nat_lt 0 (length (left_of e.0.1))) (not_whole e.0.1) (Ok made) layout e.2 in
     let short : length (left_of e.0.1) ≤ 0 = ltb-false 0 (length (left_of e.0.1)) whole.0 in
     let back : BodyBack head at made = record {
-      period = refl;
-      columns = refl;
+      events = refl;
+      runs = refl;
       procs = procs.0;
       files = files.0;
       nodes = nodes.0;
@@ -110,20 +82,21 @@ body_back head at layout bytes is =
 
 -- ---- the whole file
 
-seams : (m w p f n a b : List ℕ) → m ++ (w ++ ((p ++ (f ++ n)) ++ (a ++ (b ++ [])))) ≡ m ++ w ++ p ++ f ++ n ++ a ++ b
-seams m w p f n a b = simp (append_assoc, append-nil)
+seams : (m w k p f n a b : List ℕ) → m ++ ((w ++ k) ++ ((p ++ (f ++ n)) ++ (a ++ (b ++ [])))) ≡ (m ++ w) ++ (k ++ p ++ f ++ n ++ a ++ b)
+seams m w k p f n a b = simp (append_assoc, append-nil)
 
-module _ (layout : Layout) (c : Content) (p : Passed layout c) (head : Head) (at : At) (bytes : IsBytes at.whole) (back : BodyBack head at layout) where
+module _ (layout : Layout) (c : EventContent) (p : Passed layout c) (version : Version) (headed : IsHeaded version layout.version layout.events layout.runs)
+    (head : Head) (at : At) (bytes : IsBytes at.whole) (back : BodyBack head at layout) where
   abbrev names : Names
   names = names_in layout
 
-  abbrev own : Content
+  abbrev own : EventContent
   own = own_content layout
 
   profiles_end : p.behind_profiles ≡ layout.contexts
   profiles_end =
-      lists_end 6 profile_fields (λ e. refl) list_from (λ column b a at next read. list_moved column b a at next read) own.profiles head.columns 0 [] layout.entries layout.profiles layout.contexts p.behind_profiles
-      (profiles_long layout names (own_nodes layout) own refl ∙ back.columns) back.lists p.profiles
+      lists_end 6 profile_fields (λ e. refl) list_from (λ column b a at next read. list_moved column b a at next read) own.profiles (columns_of (length head.events) head.runs) 0 [] layout.entries layout.profiles layout.contexts p.behind_profiles
+      (profiles_long layout names (own_nodes layout) own refl ∙ (λ i. columns_of (length (back.events i)) (back.runs i))) back.lists p.profiles
 
   contexts_end : p.behind_contexts ≡ back.behind_all
   contexts_end =
@@ -167,11 +140,18 @@ module _ (layout : Layout) (c : Content) (p : Passed layout c) (head : Head) (at
   many_nodes : length own.nodes ≡ head.nodes
   many_nodes = length-map layout.nodes (node_of names) ∙ back.nodes
 
-  abbrev own_numbers : List ℕ
-  own_numbers = own.period ∷ own.columns ∷ length names.procs ∷ length names.files ∷ length own.nodes ∷ []
+  abbrev own_counts : List ℕ
+  own_counts = length names.procs ∷ length names.files ∷ length own.nodes ∷ []
 
-  numbers_are : head_numbers head ≡ own_numbers
-  numbers_are = λ i. sym back.period i ∷ sym back.columns i ∷ sym many_procs i ∷ sym many_files i ∷ sym many_nodes i ∷ []
+  counts_are : raw_counts head ≡ own_counts
+  counts_are = λ i. sym many_procs i ∷ sym many_files i ∷ sym many_nodes i ∷ []
+
+  numbers_are : raw_head_numbers version head.events head.runs ≡ head_numbers version own
+  numbers_are =
+      (λ i. raw_head_numbers version (sym back.events i) (sym back.runs i)) ∙ numbers_of version layout (numbers_few layout p.head)
+
+  version_is : version_of own ≡ version
+  version_is = version_again version layout headed (not_elsewhere layout p.head) (numbers_few layout p.head)
 
   nodes_are : flat_map (node_bytes names) own.nodes ≡ flat_map raw_node_bytes layout.nodes
   nodes_are =
@@ -179,24 +159,24 @@ module _ (layout : Layout) (c : Content) (p : Passed layout c) (head : Head) (at
       (subst (λ (n : ℕ). All (λ r. in_range n (length names.files) r.scope ≡ true) layout.nodes) (sym (length-map layout.procs raw_proc_name))
       (subst (λ (n : ℕ). All (λ r. in_range (length layout.procs) n r.scope ≡ true) layout.nodes) (sym (length-map layout.files file_name)) (ranged layout c p)))
 
-  own_spelled : database_magic ++ (words (head_numbers head) ++ left_of at) ≡ database_spelling own
-  unfolding database_spelling
+  own_spelled : database_magic version ++ (raw_head_bytes version head ++ left_of at) ≡ events_spelling own
+  unfolding events_spelling
   own_spelled =
-      ap (λ (l : List ℕ). database_magic ++ (words (head_numbers head) ++ l)) left_is
-      ∙ seams database_magic (words (head_numbers head)) (flat_map raw_proc_bytes layout.procs) (flat_map raw_file_bytes layout.files) (flat_map raw_node_bytes layout.nodes) profile_plane context_plane
-      ∙ (λ i. database_magic ++ words (numbers_are i) ++ sym (procs_spelled layout.procs (used_procs layout.nodes) p.procs) i ++ sym (files_spelled layout.files) i ++ sym nodes_are i ++ profile_plane ++ context_plane)
+      ap (λ (l : List ℕ). database_magic version ++ (raw_head_bytes version head ++ l)) left_is
+      ∙ seams (database_magic version) (words (raw_head_numbers version head.events head.runs)) (words (raw_counts head)) (flat_map raw_proc_bytes layout.procs) (flat_map raw_file_bytes layout.files) (flat_map raw_node_bytes layout.nodes) profile_plane context_plane
+      ∙ (λ i. (database_magic (sym version_is i) ++ words (numbers_are i)) ++ (words (counts_are i) ++ sym (procs_spelled layout.procs (used_procs layout.nodes) p.procs) i ++ sym (files_spelled layout.files) i ++ sym nodes_are i ++ profile_plane ++ context_plane))
+      ∙ (λ i. (database_magic (version_of own) ++ words (head_numbers (sym version_is i) own)) ++ shared_bytes names own.nodes own.profiles own.contexts)
 
 -- what is read of a database is spelled by its bytes
-pub read_spelled : (bytes : List ℕ) (c : Content) → IsBytes bytes → database_in bytes ≡ Ok c → bytes ≡ database_spelling c
-unfolding layout_in
-read_spelled bytes c are read =
-    let a = passed bytes c read in
-    let b = bind_ok (magic_or (fault 1 0) database_magic bytes) _ _ a.1 in
-    let front = magic_took (fault 1 0) database_magic bytes b.0 b.1 in
-    let head = behind head_from (λ h. words (head_numbers h)) head_back b.0 _ _ (subst IsBytes (ap (λ (at : At). at.whole) front.0) are) b.2 in
-    front.1 ∙ ap (λ (l : List ℕ). database_magic ++ l) (ap left_of front.0 ∙ head.took.left)
-    ∙ own_spelled a.0 c a.2 head.value head.next head.bytes (body_back head.value head.next a.0 head.bytes head.is) ∙ ap database_spelling a.2.is
+pub read_spelled : (bytes : List ℕ) (c : EventContent) → IsBytes bytes → events_in bytes ≡ Ok c → bytes ≡ events_spelling c
+read_spelled bytes c are is =
+    let a = passed bytes c is in
+    let r : IsRead bytes a.0 = read bytes a.0 a.1 in
+    let front = version_took bytes r.version r.begun in
+    let took = head_took r.version (after_magic bytes) r.next r.head are r.headed in
+    front ∙ ap (λ (l : List ℕ). database_magic r.version ++ l) took.left
+    ∙ own_spelled a.0 c a.2 r.version r.is r.head r.next (bytes_on took are) (body_back r.head r.next a.0 (bytes_on took are) r.bodied) ∙ ap events_spelling a.2.is
 
 -- and so its spelling is read as the same
-pub read_again : (bytes : List ℕ) (c : Content) → IsBytes bytes → database_in bytes ≡ Ok c → database_in (database_spelling c) ≡ Ok c
-read_again bytes c are read = subst (λ (b : List ℕ). database_in b ≡ Ok c) (read_spelled bytes c are read) read
+pub read_again : (bytes : List ℕ) (c : EventContent) → IsBytes bytes → events_in bytes ≡ Ok c → events_in (events_spelling c) ≡ Ok c
+read_again bytes c are is = subst (λ (b : List ℕ). events_in b ≡ Ok c) (read_spelled bytes c are is) is

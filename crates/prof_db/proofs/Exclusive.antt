@@ -150,23 +150,23 @@ differ a b c x y z up zero_c zero_z =
     and_last false u e = refl
 
 -- the samples of exclusive values are those of their counts
-pub samples_are : (period : ℕ) (es : List RawEntry) → counts_in (map (entry_count period) (filter is_exclusive_entry es)) ≡ sum_by (entry_samples period) es
+pub samples_are : (period : ℕ → ℕ) (es : List RawEntry) → counts_in (map (entry_count period) (filter is_exclusive_entry es)) ≡ sum_by (entry_samples period) es
 samples_are period [] = refl
 samples_are period (e ∷ es) =
-    elim (is_exclusive_entry e) as (λ b. counts_in (map (entry_count period) (cond b (e ∷ filter is_exclusive_entry es) (filter is_exclusive_entry es))) ≡ cond b (e.value / period) 0 + sum_by (entry_samples period) es) [
-      | true ↦ sum_by-cons (λ (c : NodeCount). c.count) (entry_count period e) (map (entry_count period) (filter is_exclusive_entry es)) ∙ ap (λ (n : ℕ). e.value / period + n) (samples_are period es)
+    elim (is_exclusive_entry e) as (λ b. counts_in (map (entry_count period) (cond b (e ∷ filter is_exclusive_entry es) (filter is_exclusive_entry es))) ≡ cond b (e.value / period e.column) 0 + sum_by (entry_samples period) es) [
+      | true ↦ sum_by-cons (λ (c : NodeCount). c.count) (entry_count period e) (map (entry_count period) (filter is_exclusive_entry es)) ∙ ap (λ (n : ℕ). e.value / period e.column + n) (samples_are period es)
       | false ↦ samples_are period es ∙ (omega arith)
     ] ∙ sym (sum_by-cons (entry_samples period) e es)
 
 -- ---- what the rule says
 
-module _ (period columns : ℕ) (nodes : List Node) (entries : List RawEntry) (kept : entries_kept period columns nodes entries ≡ Ok tt) where
+module _ (period : ℕ → ℕ) (columns : ℕ) (nodes : List Node) (entries : List RawEntry) (kept : entries_kept period columns nodes entries ≡ Ok tt) where
   abbrev at : ℕ → RawEntry
   at i = entry_at entries i
 
   -- the tests of an entry, in their order
   abbrev whole_samples : RawEntry → Bool
-  whole_samples e = is_statement (node_at nodes e.node).scope && e.value % period == 0
+  whole_samples e = is_statement (node_at nodes e.node).scope && e.value % period e.column == 0
 
   abbrev may_stand : RawEntry → Bool
   may_stand e = not (is_exclusive_entry e) || whole_samples e
@@ -256,25 +256,28 @@ module _ (period columns : ℕ) (nodes : List Node) (entries : List RawEntry) (k
   all_good : All IsGood entries
   all_good = All-from_get_or IsGood entries none value_ok
 
-  module _ (some : 0 < period) where
+  good_column : (e : RawEntry) → IsGood e → e.column < columns
+  good_column e ok = ltb-true e.column columns (and_parts (nat_lt e.column columns) (has_kind e) (and_parts (nat_lt e.node (length nodes)) (has_column e) ok).1).0
+
+  pub entries_columns : All (λ e. e.column < columns) entries
+  entries_columns i d lt = good_column (get_or entries i d) (all_good i d lt)
+
+  module _ (some : (column : ℕ) → 0 < period column) where
     good_node : (e : RawEntry) → IsGood e → e.node < length nodes
     good_node e ok = ltb-true (e.node) (length nodes) (and_parts (nat_lt e.node (length nodes)) (has_column e) ok).0
 
-    good_column : (e : RawEntry) → IsGood e → e.column < columns
-    good_column e ok = ltb-true e.column columns (and_parts (nat_lt e.column columns) (has_kind e) (and_parts (nat_lt e.node (length nodes)) (has_column e) ok).1).0
-
     -- a value of whole samples, other than 0, has some
-    has_some : (v : ℕ) → v ≢ 0 → v % period ≡ 0 → 0 < v / period
-    has_some v other rest = pos (v / period) refl
+    has_some : (p v : ℕ) → v ≢ 0 → v % p ≡ 0 → 0 < v / p
+    has_some p v other rest = pos (v / p) refl
       where
-        pos : (q : ℕ) → v / period ≡ q → 0 < v / period
-        pos zero is = absurd (other (sym (div-add-mod v period) ∙ ap (λ (n : ℕ). period * n + v % period) is ∙ ap (λ (n : ℕ). period * 0 + n) rest ∙ nothing period))
+        pos : (q : ℕ) → v / p ≡ q → 0 < v / p
+        pos zero is = absurd (other (sym (div-add-mod v p) ∙ ap (λ (n : ℕ). p * n + v % p) is ∙ ap (λ (n : ℕ). p * 0 + n) rest ∙ nothing p))
           where
             nothing : (n : ℕ) → n * 0 + 0 ≡ 0
             nothing n = omega arith
         pos (suc q) is = subst (λ (n : ℕ). 0 < n) (sym is) (omega arith)
 
-    good_count : (e : RawEntry) → IsGood e → is_exclusive_entry e ≡ true → 0 < e.value / period
+    good_count : (e : RawEntry) → IsGood e → is_exclusive_entry e ≡ true → 0 < e.value / period e.column
     good_count e ok excl =
         let kind = (and_parts (nat_lt e.column columns) (has_kind e) (and_parts (nat_lt e.node (length nodes)) (has_column e) ok).1).1 in
         let rest = (and_parts (nat_lt e.kind 3) (is_some e) kind).1 in
@@ -282,13 +285,13 @@ module _ (period columns : ℕ) (nodes : List Node) (entries : List RawEntry) (k
         let other : e.value ≢ 0 = λ z. true≢false (sym both.0 ∙ ap not (eq-eqb e.value 0 z)) in
         elim (or_cases (not (is_exclusive_entry e)) (whole_samples e) both.1) [
           | inl unlike ↦ absurd (true≢false (sym unlike ∙ ap not excl))
-          | inr stands ↦ has_some e.value other (eqb-true (e.value % period) 0 (and_parts (is_statement (node_at nodes e.node).scope) (e.value % period == 0) stands).1)
+          | inr stands ↦ has_some (period e.column) e.value other (eqb-true (e.value % period e.column) 0 (and_parts (is_statement (node_at nodes e.node).scope) (e.value % period e.column == 0) stands).1)
         ]
 
     good : All IsGood exclusive
     good = All-filter is_exclusive_entry IsGood entries all_good
 
-    some_counts : All (λ e. 0 < e.value / period) exclusive
+    some_counts : All (λ e. 0 < e.value / period e.column) exclusive
     some_counts = λ i d lt. good_count (get_or exclusive i d) (good i d lt) (filter_passes is_exclusive_entry entries i d lt)
 
     -- each count is that of a node and a column that there are, and counts some samples
@@ -342,7 +345,7 @@ module _ (nodes : List Node) where
       ∙ ap (λ (n : ℕ). c.count * one (q (counted_path nodes c)) + n) (spread q cs)
       ∙ sym (sum_by-cons (λ (c : NodeCount). c.count * one (q (counted_path nodes c))) c cs)
 
-  module _ (period columns : ℕ) (cs ds : List NodeCount) (moved : IsPermutation cs ds) where
+  module _ (period : ℕ → ℕ) (columns : ℕ) (cs ds : List NodeCount) (moved : IsPermutation cs ds) where
     abbrev tree : List NodeCount → CountedTree
     tree counts = record { columns = columns; nodes = nodes; counts = counts }
 
@@ -358,14 +361,14 @@ module _ (nodes : List Node) where
     same_values = λ i. record {
       nodes = length nodes;
       columns = columns;
-      entries = nonzero (flat_map (λ node. flat_map (λ column. map (λ kind. record { node = node; column = column; kind = kind; value = period * same_counts (counts_for kind) column (node_path nodes node) i }) kinds) (columns_below columns)) (range_with_len 0 (length nodes)));
+      entries = nonzero (flat_map (λ node. flat_map (λ column. map (λ kind. record { node = node; column = column; kind = kind; value = period column * same_counts (counts_for kind) column (node_path nodes node) i }) kinds) (columns_below columns)) (range_with_len 0 (length nodes)));
     }
 
 pub moved_from : (old is new : List NodeCount) → old ≡ is → IsPermutation old new → IsPermutation is new
 moved_from old is new same moved = subst (λ (cs : List NodeCount). IsPermutation cs new) same moved
 
 -- after an entry that is not broken the samples are few
-pub passed_sum : (period columns : ℕ) (nodes : List Node) (entries : List RawEntry) (i : ℕ) → entry_breaks period columns nodes entries i ≡ false → sum_by (entry_samples period) (take (i + 1) entries) ≤ most_samples
+pub passed_sum : (period : ℕ → ℕ) (columns : ℕ) (nodes : List Node) (entries : List RawEntry) (i : ℕ) → entry_breaks period columns nodes entries i ≡ false → sum_by (entry_samples period) (take (i + 1) entries) ≤ most_samples
 passed_sum period columns nodes entries i whole =
     let value : Bool = is_value period columns nodes (entry_at entries i) in
     let next : Bool = i == 0 || entries_ascend (entry_at entries (i - 1)) (entry_at entries i) in

@@ -2,11 +2,14 @@ pub mod Writing
 pub mod Profiles
 pub mod FourSamples
 pub mod TwentySamples
+pub mod TwoEvents
 pub mod FirstBroken
 pub mod FieldSteps
+pub mod Heads
 pub mod Marking
 pub mod Preorder
 pub mod Exclusive
+pub mod Sampled
 pub mod Contents
 pub mod Broken
 pub mod LineUp
@@ -18,8 +21,11 @@ pub mod Owned
 pub mod BackItems
 pub mod BackPlanes
 pub mod BackNames
+pub mod Headed
+pub mod Versions
 pub mod BackFile
 pub mod ForthItems
+pub mod ForthHead
 pub mod ForthPlanes
 pub mod ForthFile
 pub mod InPreorder
@@ -29,5 +35,7 @@ pub mod StoredNames
 pub mod StoredWords
 pub mod StoredEntries
 pub mod StoredPlanes
+pub mod StoredHeads
 pub mod StoredRules
+pub mod VersionOne
 pub mod StoredPaths

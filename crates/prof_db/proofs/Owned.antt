@@ -6,19 +6,21 @@ use Rattle.std.proofs.lemmas.List.Elements.{All-contains, All-from_get_or}
 use Rattle.prof_bytes.specs.Outcome.{Gives}
 use Rattle.prof_bytes.specs.declared.fail.Fail.{Fail}
 use Rattle.scope_types.specs.CallPaths.{ColumnPath}
+use Rattle.scope_types.specs.Columns.{columns_of}
 use Rattle.scope_types.specs.Limits.{most_samples}
 use Rattle.scope_types.specs.declared.scope.RootKind.TheVariants.{Thread}
 use Rattle.scope_types.specs.declared.scope.Scope.TheVariants as scopes
-use Rattle.tree_types.specs.Database.{content_of, names_used, naming_in, node_list}
+use Rattle.tree_types.specs.Database.{event_content_of, names_used, naming_in, node_list}
 use Rattle.tree_types.specs.Nodes.{no_parent, nodes}
-use Rattle.tree_types.specs.OfContent.{IsProfile}
+use Rattle.tree_types.specs.OfContent.{IsEventProfile}
 use Rattle.tree_types.specs.PathsOf.{tree_paths}
+use Rattle.tree_types.specs.Planes.{context_plane, profile_plane}
 use Rattle.tree_types.specs.Tree.{CountedTree, IsPreorder, node_at, paths_in}
-use Rattle.tree_types.specs.declared.content.Content.{Content}
+use Rattle.tree_types.specs.declared.content.EventContent.{EventContent}
 use Rattle.tree_types.specs.declared.content.Names.{Names}
 use Rattle.tree_types.specs.declared.content.Node.{Node}
 use Rattle.tree_types.specs.declared.counted_tree.NodeCount.{NodeCount}
-use Rattle.tree_types.proofs.ContentParts.{profile_of_paths}
+use Rattle.tree_types.proofs.EventParts.{profile_of_event_paths}
 use Rattle.tree_types.proofs.PathSteps.{as_many_paths}
 use Rattle.tree_types.proofs.TreeLaws.{paths_in_tree}
 use Rattle.tree_types.proofs.ValuePlanes.{contexts_are, profiles_are}
@@ -27,18 +29,22 @@ use Rattle.prof_db.specs.declared.raw.Layout.{Layout}
 use Rattle.prof_db.specs.declared.raw.RawEntry.{RawEntry}
 use Rattle.prof_db.specs.declared.raw.RawNode.{RawNode}
 use Rattle.prof_db.specs.declared.raw.RawScope.TheVariants as raws
+use Rattle.prof_db.specs.HeadRules.{event_of, events_of, layout_columns, layout_period}
 use Rattle.prof_db.specs.NameRules.{is_among, names_in}
 use Rattle.prof_db.specs.NodeRules.{in_preorder, in_range, is_placed, is_statement, node_breaks, node_is_wrong, node_of, parents_of, raw_node_at}
-use Rattle.prof_db.specs.Rules.{database_in}
+use Rattle.prof_db.specs.Rules.{events_in}
+use Rattle.prof_db.specs.private.Heads.{IsHead}
 use Rattle.prof_db.specs.ValueRules.{entry_count, is_exclusive_entry, sampled_nodes, statement_breaks, tree_of}
 use Rattle.prof_db.proofs.Exclusive.{counts_columns, counts_inside, counts_some, few_samples}
+use Rattle.prof_db.proofs.Headed.{read}
+use Rattle.prof_db.proofs.Heads.{are_periods, few_columns, head_is, some_of_column}
 use Rattle.prof_db.proofs.OwnNames.{among_at, contains_map, names_own}
 use Rattle.prof_db.proofs.OwnPaths.{listed_own, nodes_own, own_is, paths_all, some_scope}
-use Rattle.prof_db.proofs.Passed.{Passed, head_is, own_content, own_nodes, passed}
+use Rattle.prof_db.proofs.Passed.{Passed, own_content, own_nodes, passed}
 use Rattle.prof_db.proofs.Preorder.{preorder_of_rule}
 use Rattle.prof_db.proofs.FirstBroken.{none_broken}
 
-module _ (layout : Layout) (c : Content) (p : Passed layout c) where
+module _ (layout : Layout) (c : EventContent) (p : Passed layout c) where
   abbrev names : Names
   names = names_in layout
 
@@ -51,14 +57,23 @@ module _ (layout : Layout) (c : Content) (p : Passed layout c) where
   abbrev files : ℕ
   files = length layout.files
 
+  head : IsHead layout
+  head = head_is layout p.head
+
   many : length ns ≡ length layout.nodes
   many = length-map layout.nodes (node_of names)
 
   few : length ns < no_parent
-  few = (let a = many in let b = (head_is layout.period layout.columns (length layout.nodes) p.head).few in omega (arith, a, b))
+  few = (let a = many in let b = head.nodes in omega (arith, a, b))
 
-  period_some : 0 < layout.period
-  period_some = (head_is layout.period layout.columns (length layout.nodes) p.head).some_period
+  abbrev period : ℕ → ℕ
+  period = layout_period layout
+
+  abbrev columns : ℕ
+  columns = layout_columns layout
+
+  period_some : (column : ℕ) → 0 < period column
+  period_some column = some_of_column _ (are_periods (events_of layout) head.events) column
 
   pub preorder : IsPreorder ns
   preorder = preorder_of_rule procs files layout.nodes ns few p.nodes
@@ -99,7 +114,7 @@ module _ (layout : Layout) (c : Content) (p : Passed layout c) where
   exclusive = filter is_exclusive_entry layout.entries
 
   abbrev counts : List NodeCount
-  counts = map (entry_count layout.period) exclusive
+  counts = map (entry_count period) exclusive
 
   statement_sampled : (i : ℕ) → i < length ns → is_statement (node_at ns i).scope ≡ true → (k : NodeCount) × Contains counts k × (k.node ≡ i) × (0 < k.count)
   statement_sampled i lt is =
@@ -110,26 +125,26 @@ module _ (layout : Layout) (c : Content) (p : Passed layout c) where
       let long = length-map exclusive (λ (e : RawEntry). e.node) in
       let within : a.0 < length exclusive = (let less = a.1 in omega (arith, less, long)) in
       let d : RawEntry = record { offset = 0; column = 0; node = 0; kind = 0; value = 0 } in
-      let has : Contains counts (entry_count layout.period (get_or exclusive a.0 d)) = contains_map (entry_count layout.period) exclusive a.0 d within in (
-        entry_count layout.period (get_or exclusive a.0 d),
+      let has : Contains counts (entry_count period (get_or exclusive a.0 d)) = contains_map (entry_count period) exclusive a.0 d within in (
+        entry_count period (get_or exclusive a.0 d),
         has,
         sym (get_or-map (λ (e : RawEntry). e.node) exclusive a.0 d 0 within) ∙ a.2,
-        All-contains (λ (k : NodeCount). 0 < k.count) counts (entry_count layout.period (get_or exclusive a.0 d)) (counts_some layout.period layout.columns ns layout.entries p.entries period_some) has,
+        All-contains (λ (k : NodeCount). 0 < k.count) counts (entry_count period (get_or exclusive a.0 d)) (counts_some period columns ns layout.entries p.entries period_some) has,
       )
 
   -- ---- the paths
 
   abbrev tree : CountedTree
-  tree = tree_of layout.period layout.columns ns layout.entries
+  tree = tree_of period columns ns layout.entries
 
   abbrev ps : List ColumnPath
   ps = paths_in tree
 
   inside : All (λ k. k.node < length ns) counts
-  inside = counts_inside layout.period layout.columns ns layout.entries p.entries period_some
+  inside = counts_inside period columns ns layout.entries p.entries period_some
 
   same : tree_paths ns ≡ nodes ps
-  same = nodes_own ns few preorder layout.columns counts inside statement_sampled child
+  same = nodes_own ns few preorder columns counts inside statement_sampled child
 
   listed : ns ≡ node_list ps
   listed = listed_own ns few preorder ps same
@@ -143,28 +158,37 @@ module _ (layout : Layout) (c : Content) (p : Passed layout c) where
   some : All (λ q. 0 < length q.path) ps
   some = paths_all tree (λ q. 0 < length q.path) (λ i d lt. some_scope ns few preorder (get_or counts i d).node (inside i d lt))
 
-  columns_below : All (λ q. q.column < layout.columns) ps
-  columns_below = paths_all tree (λ q. q.column < layout.columns) (counts_columns layout.period layout.columns ns layout.entries p.entries period_some)
+  columns_below : All (λ q. q.column < columns) ps
+  columns_below = paths_all tree (λ q. q.column < columns) (counts_columns period columns ns layout.entries p.entries period_some)
 
   samples : length ps ≤ most_samples
-  samples = (let a = paths_in_tree tree in let b = few_samples layout.period layout.columns ns layout.entries p.entries in omega (arith, a, b))
+  samples = (let a = paths_in_tree tree in let b = few_samples period columns ns layout.entries p.entries in omega (arith, a, b))
 
-  content_own : content_of layout.period layout.columns (naming_in names) ps ≡ own_content layout
-  unfolding content_of
+  same_columns : columns_of (length (events_of layout)) layout.runs ≡ columns
+  same_columns = ap (λ (n : ℕ). columns_of n layout.runs) (length-map layout.events event_of)
+
+  content_own : event_content_of (events_of layout) layout.runs (naming_in names) ps ≡ own_content layout
+  unfolding event_content_of
   content_own =
-      let by_column = profiles_are layout.period tree ps (record { same = λ t. refl }) listed few_paths in
-      let by_node = contexts_are layout.period tree ps (record { same = λ t. refl }) listed few_paths in
-      λ i. record { period = layout.period; columns = layout.columns; names = names_are i; nodes = sym listed i; profiles = sym by_column i; contexts = sym by_node i }
+      let by_column = ap (λ (n : ℕ). profile_plane period n ps) same_columns ∙ sym (profiles_are period tree ps (record { same = λ t. refl }) listed few_paths) in
+      let by_node = ap (λ (n : ℕ). context_plane period n ps) same_columns ∙ sym (contexts_are period tree ps (record { same = λ t. refl }) listed few_paths) in
+      λ i. record { events = events_of layout; runs = layout.runs; names = names_are i; nodes = sym listed i; profiles = by_column i; contexts = by_node i }
 
-  pub owned : IsProfile c
-  owned =
-      subst IsProfile (content_own ∙ p.is)
-      (profile_of_paths layout.period layout.columns (naming_in names) ps period_some few_paths some columns_below samples)
+  pub owned : length layout.runs ≡ 1 → IsEventProfile c
+  owned one =
+      let small = few_columns (length layout.events) layout.runs head.few_events one (λ i d lt. (head.harts i d lt).1) in
+      let same = same_columns in
+      subst IsEventProfile (content_own ∙ p.is)
+      (profile_of_event_paths (events_of layout) layout.runs (naming_in names) ps head.events (omega (arith, one)) head.harts (omega (arith, same, small)) few_paths some
+      (subst (λ (n : ℕ). All (λ q. q.column < n) ps) (sym same) columns_below) samples)
 
--- what is read of a database is a profile
-pub read_owned : (bytes : List ℕ) (c : Content) → database_in bytes ≡ Ok c → IsProfile c
-read_owned bytes c read = (let a = passed bytes c read in owned a.0 c a.2)
+-- what is read of a database is a profile, of one run
+pub read_owned : (bytes : List ℕ) (c : EventContent) → events_in bytes ≡ Ok c → IsEventProfile c
+read_owned bytes c is = (let a = passed bytes c is in owned a.0 c a.2 (read bytes a.0 a.1).is.one_run)
 
-pub given_profile : (bytes : List ℕ) (r : Result Content (Fail DbFault)) → Gives (λ (k : Content). k) r (database_in bytes) → IfOk r (λ k. IsProfile k)
+pub read_one_run : (bytes : List ℕ) (c : EventContent) → events_in bytes ≡ Ok c → length c.runs ≡ 1
+read_one_run bytes c is = (let a = passed bytes c is in ap (λ (k : EventContent). length k.runs) (sym a.2.is) ∙ (read bytes a.0 a.1).is.one_run)
+
+pub given_profile : (bytes : List ℕ) (r : Result EventContent (Fail DbFault)) → Gives (λ (k : EventContent). k) r (events_in bytes) → IfOk r (λ k. IsEventProfile k)
 given_profile bytes (Ok c) is = read_owned bytes c is
 given_profile bytes (Err fail) is = tt

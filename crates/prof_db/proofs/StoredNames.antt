@@ -15,23 +15,22 @@ use Rattle.scope_types.specs.declared.scope.RootKind.TheVariants.{Thread, Partia
 use Rattle.scope_types.specs.declared.scope.Scope.{Scope}
 use Rattle.scope_types.specs.declared.scope.Scope.TheVariants as scopes
 use Rattle.tree_types.specs.Ascending.{ascending}
-use Rattle.tree_types.specs.Database.{content_of, names_used, naming_in}
 use Rattle.tree_types.specs.Naming.{FileId, file_order, files_used, line_files, proc_order, procs_used, scope_files, scope_procs}
 use Rattle.tree_types.specs.Nodes.{nodes, own_scope}
-use Rattle.tree_types.specs.PathsOf.{paths_of}
-use Rattle.tree_types.specs.declared.content.Content.{Content}
+use Rattle.tree_types.specs.PathsOf.{event_paths_of}
+use Rattle.tree_types.specs.declared.content.EventContent.{EventContent}
 use Rattle.tree_types.specs.declared.content.FileName.{FileName}
 use Rattle.tree_types.specs.declared.content.Names.{Names}
 use Rattle.tree_types.specs.declared.content.Node.{Node}
 use Rattle.tree_types.specs.declared.content.ProcName.{ProcName}
-use Rattle.tree_types.proofs.ContentParts.{own_names_ascend, own_nodes}
+use Rattle.tree_types.proofs.EventParts.{own_names, own_names_ascend, own_nodes}
 use Rattle.tree_types.proofs.NamesAgain.{file_order_tells, file_order_total, proc_order_tells, proc_order_total}
 use Rattle.tree_types.proofs.Selecting.{map_of_flat_map, map_of_map}
 use Rattle.tree_types.proofs.Sorting.{Contains-from_has, has, has-from_Contains, has_ascending}
 use Rattle.prof_db.specs.NameRules.{is_among, line_file, scope_file, scope_proc}
 use Rattle.prof_db.specs.NodeRules.{in_range, line_in_range, line_id, node_of, scope_of}
 use Rattle.prof_db.specs.Spelling.{file_index, proc_index}
-use Rattle.prof_db.specs.Stored.{IsStored}
+use Rattle.prof_db.specs.Stored.{IsEventStored}
 use Rattle.prof_db.proofs.BackNames.{position_own}
 use Rattle.prof_db.proofs.ForthItems.{raw_line, raw_node, raw_scope}
 
@@ -69,7 +68,7 @@ module _ {Y : Type 0} (P : Y → Type 0) where
   all_parts f [] all = All-nil (λ x. All P (f x))
   all_parts f (x ∷ xs) all = All-cons (λ x. All P (f x)) x xs (all_front (f x) (flat_map f xs) all) (all_parts f xs (all_back (f x) (flat_map f xs) all))
 
-module _ (c : Content) (s : IsStored c) where
+module _ (c : EventContent) (s : IsEventStored c) where
   abbrev names : Names
   names = c.names
 
@@ -82,10 +81,6 @@ module _ (c : Content) (s : IsStored c) where
   abbrev pub file_key : FileName → FileId
   file_key f = (f.table, f.file)
 
-  own_names : names_used (naming_in names) (paths_of c) ≡ names
-  unfolding content_of
-  own_names = ap (λ (x : Content). x.names) s.profile.own
-
   -- ---- which procedures and files are used
 
   abbrev pub procs_of_nodes : List ProcId
@@ -94,8 +89,8 @@ module _ (c : Content) (s : IsStored c) where
   abbrev pub files_of_nodes : List FileId
   files_of_nodes = flat_map (λ (n : Node). scope_files n.scope) c.nodes
 
-  of_nodes : {Z : Type 0} (f : Scope → List Z) → flat_map (λ (n : Node). f n.scope) c.nodes ≡ flat_map (λ n. f (own_scope n)) (nodes (paths_of c))
-  of_nodes f = ap (flat_map (λ (n : Node). f n.scope)) (own_nodes c s.profile.own) ∙ flat_map-map (λ (n : Node). f n.scope) _ (nodes (paths_of c))
+  of_nodes : {Z : Type 0} (f : Scope → List Z) → flat_map (λ (n : Node). f n.scope) c.nodes ≡ flat_map (λ n. f (own_scope n)) (nodes (event_paths_of c))
+  of_nodes f = ap (flat_map (λ (n : Node). f n.scope)) (own_nodes c s.profile.own) ∙ flat_map-map (λ (n : Node). f n.scope) _ (nodes (event_paths_of c))
 
   map_same : {K : Type 0} (ks : List K) → map (λ k. k) ks ≡ ks
   map_same [] = refl
@@ -104,15 +99,15 @@ module _ (c : Content) (s : IsStored c) where
   pub proc_keys : map (λ p. p.id) names.procs ≡ ascending proc_order procs_of_nodes
   unfolding procs_used
   proc_keys =
-      ap (λ (ns : Names). map (λ (p : ProcName). p.id) ns.procs) (sym own_names)
-      ∙ map_of_map (λ (p : ProcName). p.id) _ (procs_used (nodes (paths_of c))) ∙ map_same (procs_used (nodes (paths_of c)))
+      ap (λ (ns : Names). map (λ (p : ProcName). p.id) ns.procs) (sym (own_names c s.profile.own))
+      ∙ map_of_map (λ (p : ProcName). p.id) _ (procs_used (nodes (event_paths_of c))) ∙ map_same (procs_used (nodes (event_paths_of c)))
       ∙ ap (ascending proc_order) (sym (of_nodes scope_procs))
 
   pub file_keys : map file_key names.files ≡ ascending file_order files_of_nodes
   unfolding files_used
   file_keys =
-      ap (λ (ns : Names). map file_key ns.files) (sym own_names)
-      ∙ map_of_map file_key _ (files_used (nodes (paths_of c))) ∙ map_same (files_used (nodes (paths_of c)))
+      ap (λ (ns : Names). map file_key ns.files) (sym (own_names c s.profile.own))
+      ∙ map_of_map file_key _ (files_used (nodes (event_paths_of c))) ∙ map_same (files_used (nodes (event_paths_of c)))
       ∙ ap (ascending file_order) (sym (of_nodes scope_files))
 
   pub procs_up : AllPairs (λ p q. proc_order p.id q.id ≡ Less) names.procs

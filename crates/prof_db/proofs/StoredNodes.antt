@@ -9,21 +9,21 @@ use Rattle.scope_types.specs.CallPaths.{ColumnPath}
 use Rattle.scope_types.specs.declared.scope.RootKind.TheVariants.{Thread}
 use Rattle.scope_types.specs.declared.scope.Scope.{Scope}
 use Rattle.scope_types.specs.declared.scope.Scope.TheVariants as scopes
-use Rattle.tree_types.specs.declared.content.Content.{Content}
+use Rattle.tree_types.specs.declared.content.EventContent.{EventContent}
 use Rattle.tree_types.specs.declared.content.Node.{Node}
 use Rattle.tree_types.specs.Nodes.{nodes, no_parent, own_scope, parent_path}
 use Rattle.tree_types.specs.Paths.{Path}
-use Rattle.tree_types.specs.PathsOf.{paths_of, tree_paths}
+use Rattle.tree_types.specs.PathsOf.{event_paths_of, tree_paths}
 use Rattle.tree_types.specs.Tree.{CountedTree, IsPreorder, IsTree, node_at, node_path}
-use Rattle.tree_types.proofs.ContentParts.{own_node_count, own_nodes}
+use Rattle.tree_types.proofs.EventParts.{own_nodes}
 use Rattle.tree_types.proofs.NodeLaws.{node_is_prefix, prefix_is_node}
 use Rattle.tree_types.proofs.PathSteps.{as_many_paths}
-use Rattle.tree_types.proofs.TreeLaws.{listed_in_preorder, numbers_tell}
+use Rattle.tree_types.proofs.TreeLaws.{listed_in_preorder, nodes_listed, numbers_tell}
 use Rattle.tree_types.proofs.TreePaths.{tree_paths_is}
 use Rattle.tree_types.proofs.TreeValues.{inner_is, parent_before, root_is, some_path}
 use Rattle.prof_db.specs.NameRules.{is_among}
 use Rattle.prof_db.specs.NodeRules.{is_placed, is_root, is_statement, parents_of, stands_under}
-use Rattle.prof_db.specs.Stored.{IsStored, is_call_path}
+use Rattle.prof_db.specs.Stored.{IsEventStored, is_call_path}
 use Rattle.prof_db.proofs.CallPaths.{begins, ends_with_statement, last_is_statement, stands_behind}
 use Rattle.prof_db.proofs.OwnPaths.{bare_tree, own_is}
 use Rattle.tree_types.proofs.TreePaths.{parent_path_front}
@@ -32,15 +32,15 @@ use Rattle.tree_types.proofs.TreePaths.{parent_path_front}
 front_same : (p q : Path) (x y : Scope) → p ++ x ∷ [] ≡ q ++ y ∷ [] → p ≡ q
 front_same p q x y e = sym (parent_path_front p x) ∙ ap parent_path e ∙ parent_path_front q y
 
-module _ (c : Content) (s : IsStored c) where
+module _ (c : EventContent) (s : IsEventStored c) where
   abbrev ns : List Node
   ns = c.nodes
 
   abbrev ps : List ColumnPath
-  ps = paths_of c
+  ps = event_paths_of c
 
   pub few_paths : length (nodes ps) ≤ no_parent
-  few_paths = (let a = own_node_count c s.profile.own in let b = s.nodes in omega (arith, a, b))
+  few_paths = (let a = ap length (own_nodes c s.profile.own) ∙ nodes_listed ps in let b = s.nodes in omega (arith, a, b))
 
   pub preorder : IsPreorder ns
   preorder = subst IsPreorder (sym (own_nodes c s.profile.own)) (listed_in_preorder ps few_paths)

@@ -1,5 +1,5 @@
 -- The content of call paths is one that is read as it was written.
-use Rattle.std.proofs.Common.{◌≡◌, ℕ, ◌+◌, ◌*◌, ◌<◌, ◌≤◌, ◌==◌, not, Bool, true, false, List, [], ◌∷◌, ◌++◌, length, get_or, map, reverse, count_by, All, Ok, IfOk, true≢false, refl, sym, ap, subst, ◌∙◌, arith, append_assoc}
+use Rattle.std.proofs.Common.{◌≡◌, ℕ, ◌+◌, ◌*◌, ◌<◌, ◌≤◌, ◌==◌, not, Bool, true, false, List, [], ◌∷◌, ◌++◌, length, get_or, map, reverse, count_by, sum, All, Ok, IfOk, true≢false, refl, sym, ap, subst, ◌∙◌, arith, append_assoc}
 use Rattle.std.specs.List.{enumerate_from, flat_map}
 use Rattle.std.proofs.lemmas.Bool.{and_from}
 use Rattle.std.proofs.lemmas.List.{length-append, length-map}
@@ -7,36 +7,45 @@ use Rattle.std.proofs.lemmas.List.Elements.{All-contains, All-cons, All-head, Al
 use Rattle.std.proofs.lemmas.List.Sums.{count_by-le-length, length-filter}
 use Rattle.scope_types.specs.Alike.{Alike}
 use Rattle.scope_types.specs.CallPaths.{ColumnPath}
+use Rattle.scope_types.specs.Columns.{columns_of, paths_of_event, period_of_column}
+use Rattle.scope_types.specs.Events.{periods_of}
+use Rattle.scope_types.specs.Limits.{most_harts}
 use Rattle.scope_types.specs.Expansion.{FoundAt, call_path, expansion, frame_scopes, pc_of, root_of}
 use Rattle.scope_types.specs.Raw.{Raw}
+use Rattle.scope_types.specs.declared.event.Event.TheVariants.{Retired}
+use Rattle.scope_types.specs.declared.event.EventPeriod.{EventPeriod}
 use Rattle.scope_types.specs.declared.scope.LineId.{LineId}
 use Rattle.scope_types.specs.declared.scope.ProcId.{ProcId}
 use Rattle.scope_types.specs.declared.scope.RootKind.{RootKind}
 use Rattle.scope_types.specs.declared.scope.Scope.{Scope}
 use Rattle.scope_types.specs.declared.scope.Scope.TheVariants.{Root, Proc, Inline, Call, Stmt}
-use Rattle.tree_types.specs.Database.{content_of}
+use Rattle.tree_types.specs.Database.{content_of, event_content_of, period_at}
 use Rattle.tree_types.specs.Naming.{Naming, files_used, procs_used}
 use Rattle.tree_types.specs.Nodes.{no_parent, nodes, own_scope}
-use Rattle.tree_types.specs.OfContent.{content_table}
+use Rattle.tree_types.specs.OfContent.{IsEventProfile, content_of_event, content_table, single_content}
 use Rattle.tree_types.specs.Paths.{Path}
-use Rattle.tree_types.specs.PathsOf.{paths_of}
+use Rattle.tree_types.specs.PathsOf.{event_paths_of}
 use Rattle.tree_types.specs.Planes.{profile_entries, node_values}
 use Rattle.tree_types.specs.TopDown.{top_down}
 use Rattle.tree_types.specs.Values.{columns_below}
+use Rattle.tree_types.specs.declared.content.EventContent.{EventContent}
 use Rattle.tree_types.specs.declared.content.FileName.{FileName}
 use Rattle.tree_types.specs.declared.content.Node.{Node}
 use Rattle.tree_types.specs.declared.content.ProfileEntry.{ProfileEntry}
-use Rattle.tree_types.proofs.ContentParts.{profile_of_paths}
 use Rattle.tree_types.proofs.Counting.{count_by-cons, one}
+use Rattle.tree_types.proofs.EventParts.{event_table, profile_of_event_paths}
 use Rattle.tree_types.proofs.NamesAgain.{table_is}
 use Rattle.tree_types.proofs.NodeLaws.{node_is_prefix}
-use Rattle.tree_types.proofs.PathsAgain.{paths_alike}
+use Rattle.tree_types.proofs.OneEvent.{single_made}
+use Rattle.tree_types.proofs.PathsAgain.{event_paths_alike}
 use Rattle.tree_types.proofs.TreeLaws.{nodes_listed}
 use Rattle.prof_db.specs.NodeRules.{stands_under}
-use Rattle.prof_db.specs.Rules.{database_in}
-use Rattle.prof_db.specs.Spelling.{database_spelling}
-use Rattle.prof_db.specs.Stored.{AreStored, HasWordNumbers, IsNamed, IsShort, IsStored, IsWord, is_call_path, leads_to_statement}
+use Rattle.prof_db.specs.Rules.{database_in, events_in}
+use Rattle.prof_db.specs.Spelling.{database_spelling, events_spelling}
+use Rattle.prof_db.specs.Stored.{AreEventsStored, AreStored, HasWordNumbers, IsEventStored, IsNamed, IsShort, IsStored, IsWord, is_call_path, leads_to_statement}
+use Rattle.prof_db.proofs.Heads.{few_columns, few_events}
 use Rattle.prof_db.proofs.StoredRules.{stored_read}
+use Rattle.prof_db.proofs.VersionOne.{stored_one_read, stored_single}
 
 -- ---- the paths that expansion makes
 
@@ -117,7 +126,7 @@ numbered_length : {X : Type 0} (a : ℕ) (xs : List X) → length (enumerate_fro
 numbered_length a [] = refl
 numbered_length a (x ∷ xs) = (let rest = numbered_length (a + 1) xs in omega (arith, rest))
 
-list_short : (period : ℕ) (ps : List ColumnPath) (column : ℕ) → length (profile_entries period ps column) ≤ 3 * length (nodes ps)
+list_short : (period : ℕ → ℕ) (ps : List ColumnPath) (column : ℕ) → length (profile_entries period ps column) ≤ 3 * length (nodes ps)
 unfolding profile_entries
 list_short period ps column =
     let all : List ProfileEntry = flat_map (node_values period ps column) (enumerate_from 0 (nodes ps)) in
@@ -133,7 +142,10 @@ last_there P [] rest some all = absurd (omega arith)
 last_there P (s ∷ []) rest some all = All-head P s rest all
 last_there P (s ∷ t ∷ n) rest some all = last_there P (t ∷ n) rest (omega arith) (All-tail P s (t ∷ n ++ rest) all)
 
-module _ (period columns : ℕ) (naming : Naming) (ps : List ColumnPath) (s : AreStored period columns naming ps) where
+abbrev one_run : ℕ → List ℕ
+one_run harts = harts ∷ []
+
+module _ (events : List EventPeriod) (harts : ℕ) (naming : Naming) (ps : List ColumnPath) (s : AreEventsStored events harts naming ps) where
   few : length (nodes ps) ≤ no_parent
   few = (let nodes = s.few_nodes in omega (arith, nodes))
 
@@ -150,29 +162,98 @@ module _ (period columns : ℕ) (naming : Naming) (ps : List ColumnPath) (s : Ar
       let p = node_is_prefix ps n (Contains-get_or (nodes ps) i d lt) in
       last_there HasWordNumbers n p.2.rest p.2.some (subst (All HasWordNumbers) p.2.parts (All-contains (λ (p : ColumnPath). All HasWordNumbers p.path) ps p.0 s.scopes p.1))
 
-  pub content_stored : IsStored (content_of period columns naming ps)
-  unfolding content_of
-  content_stored =
+  abbrev made : EventContent
+  made = event_content_of events (one_run harts) naming ps
+
+  harts_are : All (λ h. (0 < h) × (h ≤ most_harts)) (one_run harts)
+  harts_are = All-cons (λ (h : ℕ). (0 < h) × (h ≤ most_harts)) harts [] (s.some_harts, s.most_harts) (All-nil (λ (h : ℕ). (0 < h) × (h ≤ most_harts)))
+
+  profile : IsEventProfile made
+  profile =
+      let small = few_columns (length events) (one_run harts) (few_events events s.are_events) refl (λ i d lt. (harts_are i d lt).1) in
+      profile_of_event_paths events (one_run harts) naming ps s.are_events (omega arith) harts_are (omega (arith, small)) few some s.below s.few_samples
+
+  pub event_content_stored : IsEventStored made
+  unfolding event_content_of
+  event_content_stored =
       let nodes_few = s.few_nodes in
       let long = nodes_listed ps in
+      let period : ℕ → ℕ = period_of_column (periods_of events) in
+      let columns : ℕ = columns_of (length events) (one_run harts) in
       record {
-        profile = profile_of_paths period columns naming ps s.some_period few some s.below s.few_samples;
-        period = s.small_period;
-        some_columns = s.some_columns;
-        most_harts = s.most_harts;
+        profile = profile;
+        one_run = refl;
+        periods = s.small_periods;
         nodes = omega (arith, long, nodes_few);
         lists = All-map (λ (list : List ProfileEntry). IsWord (length list)) (profile_entries period ps) (columns_below columns)
             (λ i d lt. (let short = list_short period ps (get_or (columns_below columns) i d) in omega (arith, short, nodes_few)));
-        paths = all_alike (λ (p : ColumnPath). is_call_path p.path) (paths_of (content_of period columns naming ps)) ps (paths_alike period columns naming ps s.some_period few some s.below) s.call_paths;
+        paths = all_alike (λ (p : ColumnPath). is_call_path p.path) (event_paths_of made) ps (event_paths_alike events (one_run harts) naming ps s.are_events few some s.below) s.call_paths;
         scopes = All-map (λ (n : Node). HasWordNumbers n.scope) _ (nodes ps) scopes_few;
         procs = All-map IsNamed _ (procs_used (nodes ps)) (λ i d lt. record { short = s.procs (get_or (procs_used (nodes ps)) i d); nameless = λ e. ap naming.proc_name e ∙ s.nameless });
         files = All-map (λ (f : FileName). IsShort f.name) _ (files_used (nodes ps)) (λ i d lt. s.files (get_or (files_used (nodes ps)) i d).0 (get_or (files_used (nodes ps)) i d).1);
       }
 
+  -- it is read as it was written, and has each event's table
+  pub event_content_read : events_in (events_spelling made) ≡ Ok made
+  event_content_read = stored_read made event_content_stored
+
+  pub event_content_tabled : (place : ℕ) → place < length events → IfOk (events_in (events_spelling made)) (λ c. content_table (content_of_event c place)
+      ≡ top_down (period_at events place) harts naming (paths_of_event (length events) place ps))
+  event_content_tabled place inside =
+      let all : sum (one_run harts) ≡ harts = omega arith in
+      subst (λ r. IfOk r (λ c. content_table (content_of_event c place) ≡ top_down (period_at events place) harts naming (paths_of_event (length events) place ps))) (sym event_content_read)
+      (event_table events (one_run harts) naming ps s.are_events few some s.below place inside
+      ∙ ap (λ (n : ℕ). top_down (period_at events place) n naming (paths_of_event (length events) place ps)) all)
+
+-- ---- of retired alone
+
+module _ (period columns : ℕ) (naming : Naming) (ps : List ColumnPath) (s : AreStored period columns naming ps) where
+  abbrev retired : EventPeriod
+  retired = record { event = Retired; period = period }
+
+  all_columns : columns ≡ columns_of 1 (one_run columns)
+  all_columns = omega arith
+
+  as_events : AreEventsStored (retired ∷ []) columns naming ps
+  as_events = record {
+    are_events = record {
+      some = omega arith;
+      ascending = tt;
+      periods = All-cons (λ (e : EventPeriod). 1 ≤ e.period) retired [] s.some_period (All-nil (λ (e : EventPeriod). 1 ≤ e.period));
+    };
+    small_periods = All-cons (λ (e : EventPeriod). IsWord e.period) retired [] s.small_period (All-nil (λ (e : EventPeriod). IsWord e.period));
+    some_harts = s.some_columns;
+    most_harts = s.most_harts;
+    below = subst (λ (n : ℕ). All (λ p. p.column < n) ps) all_columns s.below;
+    few_samples = s.few_samples;
+    few_nodes = s.few_nodes;
+    call_paths = s.call_paths;
+    scopes = s.scopes;
+    procs = s.procs;
+    nameless = s.nameless;
+    files = s.files;
+  }
+
+  single_same : single_content (made (retired ∷ []) columns naming ps as_events) ≡ content_of period columns naming ps
+  single_same =
+      let all : sum (one_run columns) ≡ columns = omega arith in
+      single_made retired (one_run columns) naming ps ∙ ap (λ (n : ℕ). content_of period n naming ps) all
+
+  retired_alone : (made (retired ∷ []) columns naming ps as_events).events ≡ retired ∷ []
+  unfolding event_content_of
+  retired_alone = refl
+
+  pub content_stored : IsStored (content_of period columns naming ps)
+  content_stored =
+      subst IsStored single_same
+      (stored_single (made (retired ∷ []) columns naming ps as_events) period retired_alone (event_content_stored (retired ∷ []) columns naming ps as_events))
+
   -- it is read as it was written, and has the paths' table
   pub content_read : database_in (database_spelling (content_of period columns naming ps)) ≡ Ok (content_of period columns naming ps)
-  content_read = stored_read (content_of period columns naming ps) content_stored
+  content_read = stored_one_read (content_of period columns naming ps) content_stored
 
   pub content_tabled : IfOk (database_in (database_spelling (content_of period columns naming ps))) (λ c. content_table c ≡ top_down period columns naming ps)
   content_tabled =
-      subst (λ r. IfOk r (λ c. content_table c ≡ top_down period columns naming ps)) (sym content_read) (table_is period columns naming ps s.some_period few some s.below)
+      let e = as_events in
+      subst (λ r. IfOk r (λ c. content_table c ≡ top_down period columns naming ps)) (sym content_read)
+      (table_is period columns naming ps s.some_period (few (retired ∷ []) columns naming ps e) (some (retired ∷ []) columns naming ps e) s.below)

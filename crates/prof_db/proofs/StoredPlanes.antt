@@ -9,28 +9,35 @@ use Rattle.std.proofs.lemmas.List.Sums.{count_by-le-length, length-filter}
 use Rattle.tree_types.specs.NodeValues.{kind_rank}
 use Rattle.tree_types.specs.Nodes.{no_parent, nodes}
 use Rattle.tree_types.specs.Paths.{Path}
-use Rattle.tree_types.specs.PathsOf.{paths_of}
+use Rattle.tree_types.specs.PathsOf.{event_paths_of}
 use Rattle.tree_types.specs.Planes.{context_entry, context_entries_of_kind, kinds, context_entries}
 use Rattle.tree_types.specs.ValuePlanes.{column_entries, in_context, in_profile, kind_entries, node_entries}
 use Rattle.tree_types.specs.Values.{columns_below, value}
-use Rattle.tree_types.specs.declared.content.Content.{Content}
+use Rattle.tree_types.specs.declared.content.EventContent.{EventContent}
 use Rattle.tree_types.specs.declared.content.ContextEntry.{ContextEntry}
 use Rattle.tree_types.specs.declared.content.Kind.{Kind}
 use Rattle.tree_types.specs.declared.content.Kind.TheVariants.{Exclusive, Frame, Inclusive}
 use Rattle.tree_types.specs.declared.content.Node.{Node}
 use Rattle.tree_types.specs.declared.content.ProfileEntry.{ProfileEntry}
 use Rattle.tree_types.specs.declared.node_values.NodeValue.{NodeValue}
-use Rattle.tree_types.proofs.ContentParts.{own_list_count, own_contexts, own_column_count}
-use Rattle.prof_db.specs.Stored.{IsStored, IsWord}
+use Rattle.tree_types.proofs.EventParts.{own_list_count, own_contexts, own_column_count}
+use Rattle.prof_db.specs.Stored.{IsEventStored, IsWord}
 use Rattle.prof_db.proofs.ForthFile.{ContentFits}
 use Rattle.prof_db.proofs.ForthPlanes.{EntryFits, PastFits}
+use Rattle.prof_db.proofs.Heads.{few_columns, few_events}
 use Rattle.prof_db.proofs.OwnNames.{all_lists}
-use Rattle.prof_db.proofs.StoredEntries.{IsValue, are_own, contexts_by_value, profiles_by_value, value_small, values}
+use Rattle.prof_db.proofs.StoredEntries.{IsValue, are_own, columns, contexts_by_value, period, profiles_by_value, value_small, values}
 use Rattle.prof_db.proofs.StoredNames.{found}
 use Rattle.prof_db.proofs.StoredNodes.{preorder}
 use Rattle.prof_db.proofs.StoredWords.{few_files, few_procs, files_fit, procs_fit, scope_fits}
 
-module _ (c : Content) (s : IsStored c) where
+module _ (c : EventContent) (s : IsEventStored c) where
+  abbrev many : ℕ
+  many = columns c s
+
+  pub most_columns : many ≤ 64
+  most_columns = few_columns (length c.events) c.runs (few_events c.events s.profile.events) s.one_run (λ i d lt. (s.profile.harts i d lt).1)
+
   abbrev vs : List NodeValue
   vs = values c s
 
@@ -38,7 +45,7 @@ module _ (c : Content) (s : IsStored c) where
   AllFit list = All EntryFits list
 
   entries_fit : All AllFit c.profiles
-  entries_fit = subst (All AllFit) (sym (profiles_by_value c s)) (All-map AllFit (column_entries vs) (columns_below c.columns) (λ i d lt. list (get_or (columns_below c.columns) i d)))
+  entries_fit = subst (All AllFit) (sym (profiles_by_value c s)) (All-map AllFit (column_entries vs) (columns_below many) (λ i d lt. list (get_or (columns_below many) i d)))
     where
       list : (column : ℕ) → AllFit (column_entries vs column)
       list column = All-map EntryFits in_profile (filter (λ (v : NodeValue). v.column == column) vs) (λ i d lt.
@@ -59,26 +66,26 @@ module _ (c : Content) (s : IsStored c) where
           let v : NodeValue = get_or (filter test vs) i d in
           let is : IsValue c s v = All-filter test (IsValue c s) vs (are_own c s) i d lt in
           let less = is.column in
-          let most = s.most_harts in
+          let most = most_columns in
           record { column = omega (arith, less, most); value = value_small c s v is }))
 
       list : (node : ℕ) → AllPast (node_entries vs node)
       list node = all_lists PastFits (kind_entries vs node) kinds (λ i d lt. of_kind node (get_or kinds i d))
 
   -- a node has at most three values for each column
-  kind_short : (n : Path) (kind : Kind) → length (context_entries_of_kind c.period c.columns (paths_of c) n kind) ≤ c.columns
+  kind_short : (n : Path) (kind : Kind) → length (context_entries_of_kind (period c s) many (event_paths_of c) n kind) ≤ many
   kind_short n kind =
-      let f : ℕ → ContextEntry = λ column. context_entry kind column (value c.period (paths_of c) column n kind) in
-      let all : List ContextEntry = map f (columns_below c.columns) in
+      let f : ℕ → ContextEntry = λ column. context_entry kind column (value (period c s column) (event_paths_of c) column n kind) in
+      let all : List ContextEntry = map f (columns_below many) in
       let kept = length-filter (λ (e : ContextEntry). not (e.value == 0)) all in
       let few = count_by-le-length (λ (e : ContextEntry). not (e.value == 0)) all in
-      let long = length-map-range_with_len f 0 c.columns in
+      let long = length-map-range_with_len f 0 many in
       omega (arith, kept, few, long)
 
-  node_short : (n : Path) → length (context_entries c.period c.columns (paths_of c) n) ≤ 3 * c.columns
+  node_short : (n : Path) → length (context_entries (period c s) many (event_paths_of c) n) ≤ 3 * many
   unfolding context_entries
   node_short n =
-      let of : Kind → List ContextEntry = context_entries_of_kind c.period c.columns (paths_of c) n in
+      let of : Kind → List ContextEntry = context_entries_of_kind (period c s) many (event_paths_of c) n in
       let a = kind_short n Exclusive in
       let b = kind_short n Frame in
       let d = kind_short n Inclusive in
@@ -89,8 +96,8 @@ module _ (c : Content) (s : IsStored c) where
 
   lists_short : All (λ list. IsWord (length list)) c.contexts
   lists_short = subst (All (λ (list : List ContextEntry). IsWord (length list))) (sym (own_contexts c s.profile.own))
-      (All-map (λ (list : List ContextEntry). IsWord (length list)) (context_entries c.period c.columns (paths_of c)) (nodes (paths_of c))
-      (λ i d lt. (let few = node_short (get_or (nodes (paths_of c)) i d) in let most = s.most_harts in omega (arith, few, most))))
+      (All-map (λ (list : List ContextEntry). IsWord (length list)) (context_entries (period c s) many (event_paths_of c)) (nodes (event_paths_of c))
+      (λ i d lt. (let few = node_short (get_or (nodes (event_paths_of c)) i d) in let most = most_columns in omega (arith, few, most))))
 
   parent_word : (i : ℕ) (d : Node) → i < length c.nodes → IsWord (get_or c.nodes i d).parent
   parent_word i d lt = elim (cases_eq (get_or c.nodes i d).parent no_parent) [
@@ -102,14 +109,16 @@ module _ (c : Content) (s : IsStored c) where
   pub content_fits : ContentFits c
   content_fits =
       let nodes = s.nodes in
-      let most = s.most_harts in
+      let events = few_events c.events s.profile.events in
       let procs = few_procs c s in
       let files = few_files c s in
       record {
-        period = s.period;
+        one_run = s.one_run;
+        periods = s.periods;
+        harts = λ i d lt. (let most = (s.profile.harts i d lt).1 in omega (arith, most));
+        many_events = omega (arith, events);
         columns = own_column_count c s.profile.own;
         lists = own_list_count c s.profile.own;
-        many_columns = omega (arith, most);
         many_procs = omega (arith, procs, nodes);
         many_files = omega (arith, files, nodes);
         many_nodes = omega (arith, nodes);

@@ -1,9 +1,9 @@
 -- The spelling of a stored content breaks no rule, and says just that content.
-use Rattle.std.proofs.Common.{◌≡◌, ℕ, zero, suc, ◌+◌, ◌-◌, ◌<◌, ◌==◌, ◌&&◌, ◌||◌, not, nat_eq, nat_le, nat_lt, Bool, true, false, cond, List, [], ◌∷◌, ◌++◌, length, get_or, map, take, filter, sum_by, codes, All, Less, Equal, Ok, Err, inl, inr, refl, sym, ap, ap₂, subst, ◌∙◌, arith}
+use Rattle.std.proofs.Common.{◌≡◌, ℕ, zero, suc, ◌+◌, ◌-◌, ◌<◌, ◌==◌, ◌&&◌, ◌||◌, not, nat_eq, nat_le, nat_lt, Bool, true, false, List, [], ◌∷◌, ◌++◌, length, get_or, map, take, filter, sum_by, codes, All, Less, Equal, Ok, inl, inr, refl, sym, ap, ap₂, subst, ◌∙◌, arith}
 use Rattle.std.specs.Cmp.Lexicographic.{pointwise, slice_cmp}
 use Rattle.std.specs.List.{flat_map}
 use Rattle.std.specs.Ordering.{nat_cmp, ordering_then}
-use Rattle.std.proofs.lemmas.Bool.{and_from, cases_order, eq-eqb, le-ltb, lt-leb, lt-ltb, ne_eqb, or_from, or_left, or_right}
+use Rattle.std.proofs.lemmas.Bool.{and_from, cases_order, eq-eqb, le-ltb, lt-ltb, or_from, or_left, or_right}
 use Rattle.std.proofs.lemmas.Cmp.{nat_cmp_total, nat_list_eq_equiv, tied_itself}
 use Rattle.std.proofs.lemmas.List.{get_or-map, length-map, take-map}
 use Rattle.std.proofs.lemmas.List.Elements.{All-contains, All-filter, All-head, All-map, All-tail}
@@ -11,16 +11,18 @@ use Rattle.std.proofs.lemmas.List.Folds.{flat_map-map, list_any_at}
 use Rattle.prof_bytes.proofs.Tests.{and_false}
 use Rattle.prof_bytes.specs.Reading.{At}
 use Rattle.scope_types.specs.CallPaths.{ColumnPath}
+use Rattle.scope_types.specs.Columns.{columns_of, period_of_column}
+use Rattle.scope_types.specs.Events.{periods_of}
 use Rattle.scope_types.specs.Limits.{most_name_bytes, most_samples}
+use Rattle.scope_types.specs.declared.event.EventPeriod.{EventPeriod}
 use Rattle.scope_types.specs.declared.scope.ProcId.{ProcId}
 use Rattle.scope_types.specs.declared.scope.ProcId.TheVariants.{Die, Sym, Nameless}
 use Rattle.tree_types.specs.Naming.{proc_order, file_order}
 use Rattle.tree_types.specs.NodeValues.{values_of}
-use Rattle.tree_types.specs.Nodes.{no_parent}
-use Rattle.tree_types.specs.PathsOf.{paths_of, tree_paths}
-use Rattle.tree_types.specs.Tree.{CountedTree, counted_path, node_at, node_path}
+use Rattle.tree_types.specs.PathsOf.{event_paths_of, tree_paths}
+use Rattle.tree_types.specs.Tree.{counted_path, node_at, node_path}
 use Rattle.tree_types.specs.ValuePlanes.{entries_by_column, entries_by_node}
-use Rattle.tree_types.specs.declared.content.Content.{Content}
+use Rattle.tree_types.specs.declared.content.EventContent.{EventContent}
 use Rattle.tree_types.specs.declared.content.FileName.{FileName}
 use Rattle.tree_types.specs.declared.content.Names.{Names}
 use Rattle.tree_types.specs.declared.content.Node.{Node}
@@ -34,21 +36,22 @@ use Rattle.prof_db.specs.declared.raw.Layout.{Layout}
 use Rattle.prof_db.specs.declared.raw.RawEntry.{RawEntry}
 use Rattle.prof_db.specs.declared.raw.RawNode.{RawNode}
 use Rattle.prof_db.specs.declared.raw.RawProc.{RawProc}
-use Rattle.prof_db.specs.Broken.{first_broken}
-use Rattle.prof_db.specs.Fields.{fault}
-use Rattle.prof_db.specs.NameRules.{file_at, file_breaks, file_name, files_ascend, files_kept, head_kept, is_among, is_valid_proc, names_in, names_kept, pair_less, proc_at, proc_breaks, proc_id, raw_proc_name, procs_ascend, procs_kept, scope_file, scope_proc, used_files, used_procs}
+use Rattle.prof_db.specs.HeadRules.{event_of, head_kept, layout_columns, layout_period}
+use Rattle.prof_db.specs.NameRules.{file_at, file_breaks, file_name, files_ascend, files_kept, is_among, is_valid_proc, names_in, names_kept, pair_less, proc_at, proc_breaks, proc_id, raw_proc_name, procs_ascend, procs_kept, scope_file, scope_proc, used_files, used_procs}
 use Rattle.prof_db.specs.NodeRules.{in_preorder, in_range, is_placed, is_statement, node_breaks, node_of, nodes_kept, parents_of, raw_node_at}
-use Rattle.prof_db.specs.Rules.{content_in, database_in, nodes_in, planes_in, values_in}
-use Rattle.prof_db.specs.Spelling.{file_index, proc_index, database_spelling}
-use Rattle.prof_db.specs.Stored.{IsNamed, IsStored}
+use Rattle.prof_db.specs.Rules.{content_in, events_in, layout_values, nodes_in, planes_in, values_in}
+use Rattle.prof_db.specs.Spelling.{events_spelling, file_index, proc_index, version_of}
+use Rattle.prof_db.specs.Stored.{IsEventStored, IsNamed}
 use Rattle.prof_db.specs.ValueRules.{context_fields, entry_count, entries_ascend, entries_kept, entry_at, entry_breaks, fields_kept, is_exclusive_entry, is_value, plane_fields, profile_fields, sampled_nodes, entry_samples, statement_breaks, statements_kept, tree_of}
 use Rattle.prof_db.proofs.BackPlanes.{context_bytes, profile_bytes}
 use Rattle.prof_db.proofs.ForthFile.{IsLaid, context_plane, layout_forth, layout_of}
+use Rattle.prof_db.proofs.ForthHead.{raw_event}
 use Rattle.prof_db.proofs.ForthItems.{bare_node, bare_proc, proc_kind, proc_number, proc_words_are, raw_node, raw_proc}
 use Rattle.prof_db.proofs.ForthPlanes.{bare_entry, context_fields_fit, fields_forth, profile_fields_fit}
 use Rattle.prof_db.proofs.InPreorder.{in_order}
 use Rattle.prof_db.proofs.OwnPaths.{paths_all}
 use Rattle.prof_db.proofs.StoredEntries.{is_greater, less_is, never_less, only_less, by_column, by_node, entries, good, none_breaks, paths_are, tree}
+use Rattle.prof_db.proofs.StoredHeads.{event_again, head_keeps, none_fails}
 use Rattle.prof_db.proofs.StoredNames.{file_used, files_of_nodes, files_up, found, no_file, no_proc, node_again, proc_used, procs_of_nodes, procs_up, scope_ranged, used_file_numbers, used_proc_numbers}
 use Rattle.prof_db.proofs.StoredNodes.{has_child, placed, preorder, statement_ends}
 use Rattle.prof_db.proofs.StoredPlanes.{content_fits}
@@ -69,12 +72,6 @@ same_at {Z = Z} f g xs ys same i d e lt =
 all_same : {X : Type 0} (f : X → X) (xs : List X) → All (λ x. f x ≡ x) xs → map f xs ≡ xs
 all_same f [] all = refl
 all_same f (x ∷ xs) all = ap₂ (λ (y : _) (ys : List _). y ∷ ys) (All-head (λ x. f x ≡ x) x xs all) (all_same f xs (All-tail (λ x. f x ≡ x) x xs all))
-
--- where no place is broken, the rule is kept
-none_fails : (rule : ℕ) (is_broken : ℕ → Bool) (offset : ℕ → ℕ) (i n : ℕ) → ((k : ℕ) → k < i + n → is_broken k ≡ false) → first_broken rule is_broken offset i n ≡ Ok tt
-unfolding first_broken
-none_fails rule is_broken offset i zero whole = refl
-none_fails rule is_broken offset i (suc n) whole = rw (whole i (omega arith)) (none_fails rule is_broken offset (i + 1) n (λ k lt. whole k (omega (arith, lt))))
 
 -- ---- names in order
 
@@ -117,20 +114,20 @@ bare_at [] k = refl
 bare_at (e ∷ es) zero = refl
 bare_at (e ∷ es) (suc k) = bare_at es k
 
-bare_breaks : (period columns : ℕ) (nodes : List Node) (es : List RawEntry) (i : ℕ) → entry_breaks period columns nodes (map bare_entry es) i ≡ entry_breaks period columns nodes es i
+bare_breaks : (period : ℕ → ℕ) (columns : ℕ) (nodes : List Node) (es : List RawEntry) (i : ℕ) → entry_breaks period columns nodes (map bare_entry es) i ≡ entry_breaks period columns nodes es i
 bare_breaks period columns nodes es i =
     let sums : sum_by (entry_samples period) (take (i + 1) (map bare_entry es)) ≡ sum_by (entry_samples period) (take (i + 1) es) =
     ap (sum_by (entry_samples period)) (take-map bare_entry (i + 1) es) ∙ sum_by-map (entry_samples period) bare_entry (take (i + 1) es) in
     λ t. not (is_value period columns nodes (bare_at es i t) && ((i == 0 || entries_ascend (bare_at es (i - 1) t) (bare_at es i t)) && nat_le (sums t) most_samples))
 
-bare_counts : (period : ℕ) (es : List RawEntry) → map (entry_count period) (filter is_exclusive_entry (map bare_entry es)) ≡ map (entry_count period) (filter is_exclusive_entry es)
+bare_counts : (period : ℕ → ℕ) (es : List RawEntry) → map (entry_count period) (filter is_exclusive_entry (map bare_entry es)) ≡ map (entry_count period) (filter is_exclusive_entry es)
 bare_counts period es =
     ap (map (entry_count period)) (filter_of_map is_exclusive_entry bare_entry es) ∙ map_of_map (entry_count period) bare_entry (filter is_exclusive_entry es)
 
 bare_sampled : (es : List RawEntry) → sampled_nodes (map bare_entry es) ≡ sampled_nodes es
 bare_sampled es = ap (map (λ (e : RawEntry). e.node)) (filter_of_map is_exclusive_entry bare_entry es) ∙ map_of_map (λ (e : RawEntry). e.node) bare_entry (filter is_exclusive_entry es)
 
-module _ (c : Content) (s : IsStored c) (laid : IsLaid c) where
+module _ (c : EventContent) (s : IsEventStored c) (laid : IsLaid c) where
   abbrev layout : Layout
   layout = layout_of c laid
 
@@ -139,18 +136,26 @@ module _ (c : Content) (s : IsStored c) (laid : IsLaid c) where
 
   -- ---- the head
 
-  head_ok : head_kept c.period c.columns (length laid.nodes) ≡ Ok tt
+  head_ok : head_kept (version_of c) (map raw_event c.events) c.runs (length laid.nodes) ≡ Ok tt
   head_ok =
-      let some = s.profile.period in
-      let columns = s.some_columns in
-      let most = s.most_harts in
       let few = s.nodes in
       let many = same_many bare_node (raw_node names) laid.nodes c.nodes laid.same_nodes in
-      ap (λ b. cond b (Err (fault 3 8)) (cond (c.columns == 0 || nat_lt 16 c.columns) (Err (fault 3 12)) (cond (nat_le no_parent (length laid.nodes)) (Err (fault 3 24)) (Ok tt))))
-      (ne_eqb c.period 0 (λ z. absurd (omega (arith, z, some))))
-      ∙ ap (λ b. cond b (Err (fault 3 12)) (cond (nat_le no_parent (length laid.nodes)) (Err (fault 3 24)) (Ok tt)))
-      (or_from (c.columns == 0) (nat_lt 16 c.columns) (ne_eqb c.columns 0 (λ z. absurd (omega (arith, z, columns)))) (le-ltb 16 c.columns most))
-      ∙ ap (λ b. cond b (Err (fault 3 24)) (Ok tt)) (lt-leb no_parent (length laid.nodes) (omega (arith, many, few)))
+      head_keeps c s.one_run s.profile.events s.profile.harts (length laid.nodes) (omega (arith, many, few))
+
+  events_are : map event_of (map raw_event c.events) ≡ c.events
+  events_are = map_of_map event_of raw_event c.events ∙ all_same (λ (e : EventPeriod). event_of (raw_event e)) c.events (λ i d lt. event_again (get_or c.events i d))
+
+  abbrev period : ℕ → ℕ
+  period = period_of_column (periods_of c.events)
+
+  abbrev columns : ℕ
+  columns = columns_of (length c.events) c.runs
+
+  periods_are : layout_period layout ≡ period
+  periods_are = ap (λ (es : List EventPeriod). period_of_column (periods_of es)) events_are
+
+  columns_are : layout_columns layout ≡ columns
+  columns_are = ap (λ (n : ℕ). columns_of n c.runs) (length-map c.events raw_event)
 
   -- ---- the names
 
@@ -261,23 +266,28 @@ module _ (c : Content) (s : IsStored c) (laid : IsLaid c) where
 
   -- ---- the values
 
-  entries_ok : entries_kept c.period c.columns c.nodes laid.entries ≡ Ok tt
-  entries_ok =
+  own_entries_ok : entries_kept period columns c.nodes laid.entries ≡ Ok tt
+  own_entries_ok =
       let many : length laid.entries ≡ length (entries c s) = sym (length-map laid.entries bare_entry) ∙ ap length laid.same_entries in
-      none_fails 6 (entry_breaks c.period c.columns c.nodes laid.entries) (λ i. (entry_at laid.entries i).offset) 0 (length laid.entries) (λ k lt.
-      sym (bare_breaks c.period c.columns c.nodes laid.entries k)
-      ∙ ap (λ (es : List RawEntry). entry_breaks c.period c.columns c.nodes es k) laid.same_entries ∙ none_breaks c s k (omega (arith, many, lt)))
+      none_fails 6 (entry_breaks period columns c.nodes laid.entries) (λ i. (entry_at laid.entries i).offset) 0 (length laid.entries) (λ k lt.
+      sym (bare_breaks period columns c.nodes laid.entries k)
+      ∙ ap (λ (es : List RawEntry). entry_breaks period columns c.nodes es k) laid.same_entries ∙ none_breaks c s k (omega (arith, many, lt)))
 
-  tree_is : tree_of c.period c.columns c.nodes laid.entries ≡ tree c s
+  entries_ok : entries_kept (layout_period layout) (layout_columns layout) c.nodes laid.entries ≡ Ok tt
+  entries_ok = (λ i. entries_kept (periods_are i) (columns_are i) c.nodes laid.entries) ∙ own_entries_ok
+
+  tree_is : tree_of period columns c.nodes laid.entries ≡ tree c s
   tree_is =
-      let same = sym (bare_counts c.period laid.entries) ∙ ap (λ (es : List RawEntry). map (entry_count c.period) (filter is_exclusive_entry es)) laid.same_entries in
-      λ i. record { columns = c.columns; nodes = c.nodes; counts = same i }
+      let same = sym (bare_counts period laid.entries) ∙ ap (λ (es : List RawEntry). map (entry_count period) (filter is_exclusive_entry es)) laid.same_entries in
+      λ i. record { columns = columns; nodes = c.nodes; counts = same i }
 
   content_is : content_in layout names c.nodes ≡ c
   content_is =
-      let by_column_is = ap (λ (t : CountedTree). entries_by_column (values_of c.period t)) tree_is ∙ by_column c s in
-      let by_node_is = ap (λ (t : CountedTree). entries_by_node (values_of c.period t)) tree_is ∙ by_node c s in
-      λ i. record { period = c.period; columns = c.columns; names = names; nodes = c.nodes; profiles = by_column_is i; contexts = by_node_is i }
+      let values_are : layout_values layout c.nodes ≡ values_of period (tree c s) =
+      (λ i. values_of (periods_are i) (tree_of (periods_are i) (columns_are i) c.nodes laid.entries)) ∙ ap (values_of period) tree_is in
+      let by_column_is = ap entries_by_column values_are ∙ by_column c s in
+      let by_node_is = ap entries_by_node values_are ∙ by_node c s in
+      λ i. record { events = events_are i; runs = c.runs; names = names; nodes = c.nodes; profiles = by_column_is i; contexts = by_node_is i }
 
   profiles_ok : (next : At) × (fields_kept 6 (plane_fields profile_fields c.profiles) laid.profiles ≡ Ok (tt, next))
   profiles_ok =
@@ -303,11 +313,11 @@ module _ (c : Content) (s : IsStored c) (laid : IsLaid c) where
   statement_sampled : (i : ℕ) → i < length c.nodes → is_statement (node_at c.nodes i).scope ≡ true → is_among (sampled_nodes (entries c s)) i ≡ true
   statement_sampled i lt is =
       let p = statement_ends c s i lt is in
-      let all : All (IsSampled i) (paths_of c) = subst (All (IsSampled i)) (paths_are c s) (paths_all (tree c s) (IsSampled i) counted) in
-      All-contains (IsSampled i) (paths_of c) p.0 all p.1 p.2
+      let all : All (IsSampled i) (event_paths_of c) = subst (All (IsSampled i)) (paths_are c s) (paths_all (tree c s) (IsSampled i) counted) in
+      All-contains (IsSampled i) (event_paths_of c) p.0 all p.1 p.2
     where
-      counted : All (λ k. IsSampled i (counted_path c.nodes k)) (map (entry_count c.period) exclusive)
-      counted = All-map (λ (k : NodeCount). IsSampled i (counted_path c.nodes k)) (entry_count c.period) exclusive (λ j d less path_is.
+      counted : All (λ k. IsSampled i (counted_path c.nodes k)) (map (entry_count period) exclusive)
+      counted = All-map (λ (k : NodeCount). IsSampled i (counted_path c.nodes k)) (entry_count period) exclusive (λ j d less path_is.
           let e : RawEntry = get_or exclusive j d in
           let long = as_many_paths c.nodes in
           let many = length-map exclusive (λ (x : RawEntry). x.node) in
@@ -345,8 +355,8 @@ module _ (c : Content) (s : IsStored c) (laid : IsLaid c) where
   own_nodes_ok = (λ i. nodes_in layout (names_are i) (map (node_of (names_are i)) laid.nodes)) ∙ ap (nodes_in layout names) nodes_same ∙ nodes_pass
 
 -- what is written of a stored content is read as that content
-pub stored_read : (c : Content) → IsStored c → database_in (database_spelling c) ≡ Ok c
-unfolding database_in
+pub stored_read : (c : EventContent) → IsEventStored c → events_in (events_spelling c) ≡ Ok c
+unfolding events_in
 stored_read c s =
     let laid = layout_forth c (content_fits c s) in
     rw (laid.1, head_ok c s laid.0, names_ok c s laid.0) (own_nodes_ok c s laid.0)

@@ -13,13 +13,13 @@ use Rattle.scope_types.specs.declared.scope.Scope.{Scope}
 use Rattle.scope_types.specs.declared.scope.Scope.TheVariants as scopes
 use Rattle.tree_types.specs.Ascending.{ascending, by_order, put}
 use Rattle.tree_types.specs.Naming.{FileId, file_order, line_files, proc_order, scope_files, scope_procs}
-use Rattle.tree_types.specs.declared.content.Content.{Content}
+use Rattle.tree_types.specs.declared.content.EventContent.{EventContent}
 use Rattle.tree_types.specs.declared.content.FileName.{FileName}
 use Rattle.tree_types.specs.declared.content.Node.{Node}
 use Rattle.tree_types.specs.declared.content.ProcName.{ProcName}
 use Rattle.tree_types.proofs.NamesAgain.{file_order_tells, file_order_total, proc_order_tells, proc_order_total}
 use Rattle.prof_db.specs.Spelling.{file_index, proc_index}
-use Rattle.prof_db.specs.Stored.{HasWordNumbers, IsStored, IsWord}
+use Rattle.prof_db.specs.Stored.{HasWordNumbers, IsEventStored, IsWord}
 use Rattle.prof_db.proofs.BackItems.{raw_line_numbers, raw_scope_numbers}
 use Rattle.prof_db.proofs.ForthItems.{AreWords, FileFits, ProcFits, proc_number, raw_line, raw_scope}
 use Rattle.prof_db.proofs.OwnNames.{all_lists}
@@ -104,7 +104,7 @@ files_few (scopes.Stmt line) all = line_few line (All-tail IsWord 4 (line_words 
 two : (a b : ℕ) → IsWord a → IsWord b → AreWords (a ∷ b ∷ [])
 two a b fa fb = All-cons IsWord a (b ∷ []) fa (All-cons IsWord b [] fb (All-nil IsWord))
 
-module _ (c : Content) (s : IsStored c) where
+module _ (c : EventContent) (s : IsEventStored c) where
   abbrev procs : List ProcName
   procs = c.names.procs
 

@@ -1,5 +1,5 @@
 -- A database in parts.
-use Rattle.std.proofs.Common.{◌≡◌, ℕ, ◌%◌, ◌^◌, List, [], ◌++◌, sym, ap, ◌∙◌, append_assoc, rules}
+use Rattle.std.proofs.Common.{◌≡◌, ℕ, ◌%◌, ◌^◌, List, ◌++◌, sym, ap, ◌∙◌, append_assoc, rules}
 use Rattle.std.proofs.lemmas.List.Concat.{flat_map-append}
 use Rattle.prof_bytes.proofs.Appending.{two_parts}
 use Rattle.prof_bytes.specs.Number.{word, words}
@@ -9,10 +9,14 @@ pub words_parts : (start a b : List ℕ) (front back : List ℕ) → a ≡ start
 words_parts start a b front back ea eb =
     eb ∙ ap (λ (l : List ℕ). l ++ words back) ea ∙ append_assoc start (words front) (words back) ∙ ap (λ (l : List ℕ). start ++ l) (sym (flat_map-append word front back))
 
--- a database in its six parts
-pub six_parts : (p q r s t u a b c d e f : List ℕ) → a ≡ [] ++ p → b ≡ a ++ q → c ≡ b ++ r → d ≡ c ++ s → e ≡ d ++ t → f ≡ e ++ u → f ≡ p ++ q ++ r ++ s ++ t ++ u
-six_parts p q r s t u a b c d e f ea eb ec ed ee ef =
+after_start : (start p q r s t u : List ℕ) → start ++ p ++ q ++ r ++ s ++ t ++ u ≡ start ++ (p ++ q ++ r ++ s ++ t ++ u)
+after_start start p q r s t u = simp append_assoc
+
+-- six parts, one after the other
+pub six_parts : (start p q r s t u a b c d e f : List ℕ) → a ≡ start ++ p → b ≡ a ++ q → c ≡ b ++ r → d ≡ c ++ s → e ≡ d ++ t → f ≡ e ++ u → f ≡ start ++ (p ++ q ++ r ++ s ++ t ++ u)
+six_parts start p q r s t u a b c d e f ea eb ec ed ee ef =
     ef ∙ ap (λ (l : List ℕ). l ++ u) (ee ∙ ap (λ (l : List ℕ). l ++ t) (ed ∙ ap (λ (l : List ℕ). l ++ s) (ec ∙ ap (λ (l : List ℕ). l ++ r) (eb ∙ ap (λ (l : List ℕ). l ++ q) ea))))
+    ∙ after_start start p q r s t u
 
 -- three parts, one after the other
 pub three_parts : (start a b c : List ℕ) (front middle back : List ℕ) → a ≡ start ++ front → b ≡ a ++ middle → c ≡ b ++ back → c ≡ start ++ (front ++ middle ++ back)

@@ -1,7 +1,10 @@
--- How the bytes of a database are cut into fields, by the first two rules of this project's format, version 1
--- (docs/FORMATS.md, Database).
-use Rattle.std.specs.Prelude.{ℕ, ◌==◌, List, [], Result, Ok, Err, if◌then◌else◌}
-use Rattle.prof_bytes.specs.Format.{ended_or, magic_or}
+-- How the bytes of a database are cut into fields, by the first two rules of this project's format (docs/FORMATS.md,
+-- Database). Only the head depends on the version.
+use Rattle.std.specs.Prelude.{ℕ, ◌==◌, ◌&&◌, nat_eq, nat_le, Bool, List, [], ◌∷◌, length, take, Result, Ok, Err}
+use Rattle.std.specs.Prelude.{if◌then◌else◌}
+use Rattle.std.specs.Cmp.Lexicographic.{pointwise}
+use Rattle.scope_types.specs.Columns.{columns_of}
+use Rattle.prof_bytes.specs.Format.{ended_or}
 use Rattle.prof_bytes.specs.Outcome.{◌>>=◌}
 use Rattle.prof_bytes.specs.Reading.{At}
 use Rattle.prof_db.specs.declared.fault.DbFault.{DbFault}
@@ -15,6 +18,9 @@ use Rattle.prof_db.specs.declared.raw.RawScope.{RawScope}
 use Rattle.prof_db.specs.declared.raw.RawScope.TheVariants.{Root, Proc, Inline, Call, Stmt}
 use Rattle.prof_db.specs.declared.raw.RawNode.{RawNode}
 use Rattle.prof_db.specs.declared.raw.RawEntry.{RawEntry}
+use Rattle.prof_db.specs.declared.raw.RawEvent.{RawEvent}
+use Rattle.prof_db.specs.declared.raw.Version.{Version}
+use Rattle.prof_db.specs.declared.raw.Version.TheVariants.{One, Two}
 use Rattle.prof_bytes.specs.Repeated.{times, adding}
 use Rattle.prof_db.specs.Fields.{DbRead, fault, not_whole, number_field, word_field, bytes_field}
 use Rattle.prof_db.specs.Spelling.{database_magic}
@@ -22,15 +28,40 @@ use Rattle.prof_db.specs.Spelling.{database_magic}
 -- ---- the second rule: each field is whole, each scope has a tag from 0 to 4 and each line one of 0 or 1, and nothing
 -- follows
 
--- the head: the period, and how many columns, procedures, files and nodes there are
-unfoldable pub head_from : At → DbRead Head
-head_from at = do
-  (period, next) ← word_field at
-  (columns, next) ← word_field next
-  (procs, next) ← word_field next
+-- in each version the last words of the head: how many procedures, files and nodes there are
+unfoldable pub counts_from : Version → List RawEvent → List ℕ → At → DbRead Head
+counts_from version events runs at = do
+  (procs, next) ← word_field at
   (files, next) ← word_field next
   (nodes, next) ← word_field next
-  Ok (record { period = period; columns = columns; procs = procs; files = files; nodes = nodes }, next)
+  Ok (record { version = version; events = events; runs = runs; procs = procs; files = files; nodes = nodes }, next)
+
+-- version 1: the period of retired, the harts, and the counts
+unfoldable pub head_of_one : At → DbRead Head
+head_of_one at = do
+  (period, next) ← word_field at
+  (harts, next) ← word_field next
+  counts_from One (record { event = 0; period = period } ∷ []) (harts ∷ []) next
+
+-- an event's number and its period
+unfoldable pub event_from : At → DbRead RawEvent
+event_from at = do
+  (event, next) ← word_field at
+  (period, next) ← word_field next
+  Ok (record { event = event; period = period }, next)
+
+-- version 2: how many events, each with its period, the harts, and the counts
+unfoldable pub head_of_two : At → DbRead Head
+head_of_two at = do
+  (count, next) ← word_field at
+  (events, next) ← times (adding event_from) count 0 [] next
+  (harts, next) ← word_field next
+  counts_from Two events (harts ∷ []) next
+
+-- the head, as its version spells it
+abbrev pub head_from : Version → At → DbRead Head
+head_from One at = head_of_one at
+head_from Two at = head_of_two at
 
 -- the length, and the bytes
 unfoldable pub stored_text_from : At → DbRead (List ℕ)
@@ -152,11 +183,12 @@ body_from head at = do
   (procs, next) ← times (adding proc_from) head.procs 0 [] at
   (files, next) ← times (adding file_from) head.files 0 [] next
   (nodes, profiles) ← times (adding node_from) head.nodes 0 [] next
-  (entries, contexts) ← times list_from head.columns 0 [] profiles
+  (entries, contexts) ← times list_from (columns_of (length head.events) head.runs) 0 [] profiles
   (done, end) ← times past_list head.nodes 0 tt contexts
   ended_or not_whole (record {
-    period = head.period;
-    columns = head.columns;
+    version = head.version;
+    events = head.events;
+    runs = head.runs;
     procs = procs;
     files = files;
     nodes = nodes;
@@ -165,9 +197,22 @@ body_from head at = do
     contexts = contexts;
   }) end
 
--- the first rule: a database begins with the format's eight bytes
+-- whether a file begins with these eight bytes
+abbrev pub begins : List ℕ → List ℕ → Bool
+begins magic bytes = nat_le 8 (length bytes) && pointwise nat_eq (take 8 bytes) magic
+
+-- where the fields after those begin
+abbrev pub after_magic : List ℕ → At
+after_magic bytes = record { whole = bytes; offset = 8 }
+
+-- the first rule: a database begins with the eight bytes of one of the versions
+abbrev pub version_in : List ℕ → Result Version DbFault
+version_in bytes = if begins (database_magic One) bytes then Ok One
+    else if begins (database_magic Two) bytes then Ok Two else Err (fault 1 0)
+
+-- the version, its head, and what all versions share
 unfoldable pub layout_in : List ℕ → Result Layout DbFault
 layout_in bytes = do
-  next ← magic_or (fault 1 0) database_magic bytes
-  (head, next) ← head_from next
+  version ← version_in bytes
+  (head, next) ← head_from version (after_magic bytes)
   body_from head next

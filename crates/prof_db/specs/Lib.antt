@@ -3,6 +3,7 @@ pub mod Writable
 pub mod Fields
 pub mod Layout
 pub mod Broken
+pub mod HeadRules
 pub mod NameRules
 pub mod NodeRules
 pub mod ValueRules

@@ -1,15 +1,13 @@
--- The third and the fourth rule of a database in this project's format (docs/FORMATS.md, Database): the head, and the
--- names.
-use Rattle.std.specs.Prelude.{ℕ, ◌-◌, ◌==◌, ◌&&◌, ◌||◌, not, Bool, nat_eq, nat_le, nat_lt, List, [], ◌∷◌, length, map}
-use Rattle.std.specs.Prelude.{slice_index_or, Ok, Err, if◌then◌else◌}
+-- The fourth rule of a database in this project's format (docs/FORMATS.md, Database): the names.
+use Rattle.std.specs.Prelude.{ℕ, ◌-◌, ◌==◌, ◌&&◌, ◌||◌, not, Bool, nat_eq, nat_lt, List, [], ◌∷◌, length, map}
+use Rattle.std.specs.Prelude.{slice_index_or, if◌then◌else◌}
 use Rattle.std.specs.List.{flat_map, list_any}
 use Rattle.std.specs.Cmp.Lexicographic.{pointwise}
 use Rattle.prof_bytes.specs.Outcome.{◌>>=◌}
 use Rattle.scope_types.specs.declared.scope.ProcId.{ProcId}
 use Rattle.scope_types.specs.declared.scope.ProcId.TheVariants.{Die, Sym, Nameless}
-use Rattle.scope_types.specs.Limits.{most_name_bytes, most_harts}
+use Rattle.scope_types.specs.Limits.{most_name_bytes}
 use Rattle.tree_types.specs.Naming.{unknown_procedure}
-use Rattle.tree_types.specs.Nodes.{no_parent}
 use Rattle.tree_types.specs.declared.content.Names.{Names}
 use Rattle.tree_types.specs.declared.content.ProcName.{ProcName}
 use Rattle.tree_types.specs.declared.content.FileName.{FileName}
@@ -21,17 +19,7 @@ use Rattle.prof_db.specs.declared.raw.RawLine.TheVariants.{Row, Address}
 use Rattle.prof_db.specs.declared.raw.RawScope.{RawScope}
 use Rattle.prof_db.specs.declared.raw.RawScope.TheVariants.{Root, Proc, Inline, Call, Stmt}
 use Rattle.prof_db.specs.declared.raw.RawNode.{RawNode}
-use Rattle.prof_db.specs.Fields.{fault}
 use Rattle.prof_db.specs.Broken.{RuleCheck, first_broken}
-
--- ---- the third rule: a period of at least 1, 1 to 16 harts, and fewer nodes than the number that stands for no
--- parent, which any file below 48 GiB has: by the second rule it holds all its nodes
-
--- whether the head keeps the third rule, else its first fault
-abbrev pub head_kept : ℕ → ℕ → ℕ → RuleCheck
-head_kept period columns nodes = if period == 0 then Err (fault 3 8)
-    else if columns == 0 || nat_lt most_harts columns then Err (fault 3 12)
-    else if nat_le no_parent nodes then Err (fault 3 24) else Ok tt
 
 -- ---- the fourth rule: procedures and files strictly ascend, have short names, and are used
 

@@ -1,8 +1,12 @@
--- The bytes of a database in this project's format, version 1 (docs/FORMATS.md, Database).
-use Rattle.std.specs.Prelude.{ℕ, List, [], ◌∷◌, ◌++◌, length, codes}
+-- The bytes of a database in this project's format (docs/FORMATS.md, Database): the head of its version, and then what
+-- all versions share.
+use Rattle.std.specs.Prelude.{ℕ, ◌==◌, ◌&&◌, List, [], ◌∷◌, ◌++◌, length, codes, if◌then◌else◌}
 use Rattle.std.specs.List.{flat_map, position_or_len}
 use Rattle.prof_bytes.specs.Number.{number_bytes, word, words}
 use Rattle.std.specs.Ordering.{is_eq}
+use Rattle.scope_types.specs.Events.{event_number, is_retired_alone, periods_of}
+use Rattle.scope_types.specs.declared.event.Event.TheVariants.{Retired}
+use Rattle.scope_types.specs.declared.event.EventPeriod.{EventPeriod}
 use Rattle.scope_types.specs.declared.scope.ProcId.{ProcId}
 use Rattle.scope_types.specs.declared.scope.LineId.{LineId}
 use Rattle.scope_types.specs.declared.scope.LineId.TheVariants.{Row, Address}
@@ -11,6 +15,7 @@ use Rattle.scope_types.specs.declared.scope.Scope.TheVariants.{Root, Proc, Inlin
 use Rattle.scope_types.specs.Words.{root_words, proc_words}
 use Rattle.tree_types.specs.declared.content.Content.{Content}
 use Rattle.tree_types.specs.declared.content.ContextEntry.{ContextEntry}
+use Rattle.tree_types.specs.declared.content.EventContent.{EventContent}
 use Rattle.tree_types.specs.declared.content.Names.{Names}
 use Rattle.tree_types.specs.declared.content.Node.{Node}
 use Rattle.tree_types.specs.declared.content.ProfileEntry.{ProfileEntry}
@@ -18,6 +23,9 @@ use Rattle.tree_types.specs.declared.content.FileName.{FileName}
 use Rattle.tree_types.specs.declared.content.ProcName.{ProcName}
 use Rattle.tree_types.specs.Naming.{proc_order, file_order}
 use Rattle.tree_types.specs.NodeValues.{kind_rank}
+use Rattle.tree_types.specs.OfContent.{with_event}
+use Rattle.prof_db.specs.declared.raw.Version.{Version}
+use Rattle.prof_db.specs.declared.raw.Version.TheVariants.{One, Two}
 
 -- a number of eight bytes
 abbrev pub long : ℕ → List ℕ
@@ -72,21 +80,46 @@ context_entry_bytes e = word (kind_rank e.kind) ++ word e.column ++ long e.value
 abbrev pub with_count : {X : Type 0} → (X → List ℕ) → List X → List ℕ
 with_count spelled xs = word (length xs) ++ flat_map spelled xs
 
+-- ---- the head, by version
+
+-- version 1 is written where retired is the only event of one run, version 2 else
+abbrev pub version_of : EventContent → Version
+version_of c = if is_retired_alone c.events && length c.runs == 1 then One else Two
+
 -- what a file begins with
-abbrev pub database_magic : List ℕ
-database_magic = codes "HPCPROF1"
+abbrev pub database_magic : Version → List ℕ
+database_magic One = codes "HPCPROF1"
+database_magic Two = codes "HPCPROF2"
 
--- the head: the period, and how many columns, procedures, files and nodes there are
-abbrev pub database_head : Content → List ℕ
-database_head c = database_magic
-    ++ words (c.period ∷ c.columns ∷ length c.names.procs ∷ length c.names.files ∷ length c.nodes ∷ [])
+-- an event's number and its period
+abbrev pub event_numbers : EventPeriod → List ℕ
+event_numbers e = event_number e.event ∷ e.period ∷ []
 
--- all bytes of a database: the head, the names, the nodes, and both planes
+-- version 1 has the period and the harts; version 2 how many events, each with its period, and the harts
+abbrev pub head_numbers : Version → EventContent → List ℕ
+head_numbers One c = periods_of c.events ++ c.runs
+head_numbers Two c = length c.events ∷ flat_map event_numbers c.events ++ c.runs
+
+-- the first eight bytes, and the numbers of the version
+abbrev pub database_head : EventContent → List ℕ
+database_head c = database_magic (version_of c) ++ words (head_numbers (version_of c) c)
+
+-- ---- what all versions share
+
+-- how many procedures, files and nodes there are, which ends the head; these; and both planes
+abbrev pub shared_bytes : Names → List Node → List (List ProfileEntry) → List (List ContextEntry) → List ℕ
+shared_bytes names nodes profiles contexts =
+    words (length names.procs ∷ length names.files ∷ length nodes ∷ [])
+    ++ flat_map procedure_bytes names.procs
+    ++ flat_map file_name_bytes names.files
+    ++ flat_map (node_bytes names) nodes
+    ++ flat_map (with_count profile_entry_bytes) profiles
+    ++ flat_map (with_count context_entry_bytes) contexts
+
+-- all bytes of a database
+unfoldable pub events_spelling : EventContent → List ℕ
+events_spelling c = database_head c ++ shared_bytes c.names c.nodes c.profiles c.contexts
+
+-- the bytes of a database of version 1: those of one run in which retired is the only event
 unfoldable pub database_spelling : Content → List ℕ
-database_spelling c =
-    database_head c
-    ++ flat_map procedure_bytes c.names.procs
-    ++ flat_map file_name_bytes c.names.files
-    ++ flat_map (node_bytes c.names) c.nodes
-    ++ flat_map (with_count profile_entry_bytes) c.profiles
-    ++ flat_map (with_count context_entry_bytes) c.contexts
+database_spelling c = events_spelling (with_event Retired c)

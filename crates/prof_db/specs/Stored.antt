@@ -2,16 +2,20 @@
 -- written.
 use Rattle.std.specs.Prelude.{◌≡◌, ◌≤◌, ◌<◌, ◌^◌, ◌&&◌, ℕ, Bool, true, false, List, [], ◌∷◌, length, All}
 use Rattle.scope_types.specs.CallPaths.{ColumnPath}
+use Rattle.scope_types.specs.Columns.{columns_of}
+use Rattle.scope_types.specs.Events.{AreEvents}
 use Rattle.scope_types.specs.Limits.{most_name_bytes, most_scopes_in_all, most_harts, most_samples}
 use Rattle.scope_types.specs.Words.{scope_words}
+use Rattle.scope_types.specs.declared.event.EventPeriod.{EventPeriod}
 use Rattle.scope_types.specs.declared.scope.ProcId.{ProcId}
 use Rattle.scope_types.specs.declared.scope.ProcId.TheVariants.{Nameless}
 use Rattle.scope_types.specs.declared.scope.Scope.{Scope}
 use Rattle.tree_types.specs.Naming.{Naming, unknown_procedure}
 use Rattle.tree_types.specs.Nodes.{no_parent, nodes}
-use Rattle.tree_types.specs.OfContent.{IsProfile}
-use Rattle.tree_types.specs.PathsOf.{paths_of}
+use Rattle.tree_types.specs.OfContent.{IsEventProfile, IsProfile}
+use Rattle.tree_types.specs.PathsOf.{event_paths_of, paths_of}
 use Rattle.tree_types.specs.declared.content.Content.{Content}
+use Rattle.tree_types.specs.declared.content.EventContent.{EventContent}
 use Rattle.tree_types.specs.declared.content.ProcName.{ProcName}
 use Rattle.prof_db.specs.NodeRules.{is_root, is_statement, stands_under}
 
@@ -68,6 +72,36 @@ pub record AreStored (period columns : ℕ) (naming : Naming) (paths : List Colu
   pub some_columns : 1 ≤ columns
   pub most_harts : columns ≤ most_harts
   pub below : All (λ p. p.column < columns) paths
+  pub few_samples : length paths ≤ most_samples
+  pub few_nodes : length (nodes paths) ≤ most_scopes_in_all
+  pub call_paths : All (λ p. is_call_path p.path ≡ true) paths
+  pub scopes : All (λ p. All HasWordNumbers p.path) paths
+  pub procs : (id : ProcId) → IsShort (naming.proc_name id)
+  pub nameless : naming.proc_name Nameless ≡ unknown_procedure
+  pub files : (table number : ℕ) → IsShort (naming.file_name table number)
+
+-- ---- contents of several events
+
+-- the same of a content of several events and one run
+pub record IsEventStored (c : EventContent) : Type 0 where
+  pub profile : IsEventProfile c
+  pub one_run : length c.runs ≡ 1
+  pub periods : All (λ e. IsWord e.period) c.events
+  pub nodes : length c.nodes < no_parent
+  pub lists : All (λ list. IsWord (length list)) c.profiles
+  pub paths : All (λ p. is_call_path p.path ≡ true) (event_paths_of c)
+  pub scopes : All (λ n. HasWordNumbers n.scope) c.nodes
+  pub procs : All IsNamed c.names.procs
+  pub files : All (λ f. IsShort f.name) c.names.files
+
+-- events, harts and call paths of a run, within the limits of a profile, with names that the format has room for
+pub record AreEventsStored (events : List EventPeriod) (harts : ℕ) (naming : Naming)
+    (paths : List ColumnPath) : Type 0 where
+  pub are_events : AreEvents events
+  pub small_periods : All (λ e. IsWord e.period) events
+  pub some_harts : 1 ≤ harts
+  pub most_harts : harts ≤ most_harts
+  pub below : All (λ p. p.column < columns_of (length events) (harts ∷ [])) paths
   pub few_samples : length paths ≤ most_samples
   pub few_nodes : length (nodes paths) ≤ most_scopes_in_all
   pub call_paths : All (λ p. is_call_path p.path ≡ true) paths

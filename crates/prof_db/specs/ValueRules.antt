@@ -24,45 +24,46 @@ use Rattle.tree_types.specs.NodeValues.{kind_rank}
 abbrev pub entry_at : List RawEntry → ℕ → RawEntry
 entry_at entries i = slice_index_or entries i (record { offset = 0; column = 0; node = 0; kind = 0; value = 0 })
 
--- an entry of kind 0 is an exclusive value: the period times the number of samples that end at its node
+-- an entry of kind 0 is an exclusive value: its column's period times the number of samples that end at its node
 abbrev pub is_exclusive_entry : RawEntry → Bool
 is_exclusive_entry e = e.kind == 0
 
--- how many samples an entry counts: those of an exclusive value, by the period
-abbrev pub entry_samples : ℕ → RawEntry → ℕ
-entry_samples period e = if is_exclusive_entry e then e.value / period else 0
+-- how many samples an entry counts: those of an exclusive value, by the period of its column
+abbrev pub entry_samples : (ℕ → ℕ) → RawEntry → ℕ
+entry_samples period e = if is_exclusive_entry e then e.value / period e.column else 0
 
 -- a node, a column and a kind that the database has, and a value other than 0. An exclusive one is at a statement
--- and is a multiple of the period
-abbrev pub is_value : ℕ → ℕ → List Node → RawEntry → Bool
+-- and is a multiple of its column's period
+abbrev pub is_value : (ℕ → ℕ) → ℕ → List Node → RawEntry → Bool
 is_value period columns nodes e =
     nat_lt e.node (length nodes) && (nat_lt e.column columns && (nat_lt e.kind 3 && (not (e.value == 0)
-    && (not (is_exclusive_entry e) || (is_statement (node_at nodes e.node).scope && e.value % period == 0)))))
+    && (not (is_exclusive_entry e)
+    || (is_statement (node_at nodes e.node).scope && e.value % period e.column == 0)))))
 
 -- the entries ascend by column, then node, then kind. By column they ascend in any case, list after list
 abbrev pub entries_ascend : RawEntry → RawEntry → Bool
 entries_ascend e f = nat_lt e.column f.column || (e.column == f.column && pair_less e.node e.kind f.node f.kind)
 
 -- and the exclusive values up to each entry count at most 1,048,576 samples
-abbrev pub entry_breaks : ℕ → ℕ → List Node → List RawEntry → ℕ → Bool
+abbrev pub entry_breaks : (ℕ → ℕ) → ℕ → List Node → List RawEntry → ℕ → Bool
 entry_breaks period columns nodes entries i =
     not (is_value period columns nodes (entry_at entries i)
     && ((i == 0 || entries_ascend (entry_at entries (i - 1)) (entry_at entries i))
     && nat_le (sum_by (entry_samples period) (take (i + 1) entries)) most_samples))
 
--- the first entry that breaks the sixth rule
-abbrev pub entries_kept : ℕ → ℕ → List Node → List RawEntry → RuleCheck
+-- each column's period, the number of columns, the nodes and the entries: the first that breaks the sixth rule
+abbrev pub entries_kept : (ℕ → ℕ) → ℕ → List Node → List RawEntry → RuleCheck
 entries_kept period columns nodes entries =
     first_broken 6 (entry_breaks period columns nodes entries) (λ i. (entry_at entries i).offset) 0 (length entries)
 
 -- ---- the tree whose values these are
 
--- an exclusive value as a count of samples at its node
-abbrev pub entry_count : ℕ → RawEntry → NodeCount
-entry_count period e = record { node = e.node; column = e.column; count = e.value / period }
+-- an exclusive value as a count of samples at its node, by the period of its column
+abbrev pub entry_count : (ℕ → ℕ) → RawEntry → NodeCount
+entry_count period e = record { node = e.node; column = e.column; count = e.value / period e.column }
 
 -- the nodes, and the samples that the exclusive values count
-abbrev pub tree_of : ℕ → ℕ → List Node → List RawEntry → CountedTree
+abbrev pub tree_of : (ℕ → ℕ) → ℕ → List Node → List RawEntry → CountedTree
 tree_of period columns nodes entries = record {
   columns = columns;
   nodes = nodes;

@@ -1,6 +1,10 @@
 -- What a database in this project's format (docs/FORMATS.md, Database) can be written of.
-use Rattle.std.specs.Prelude.{◌≡◌, ◌≤◌, length}
+use Rattle.std.specs.Prelude.{◌≡◌, ◌≤◌, All, length}
+use Rattle.scope_types.specs.Columns.{columns_of}
+use Rattle.scope_types.specs.Events.{AreEvents}
+use Rattle.scope_types.specs.Limits.{most_harts}
 use Rattle.tree_types.specs.declared.content.Content.{Content}
+use Rattle.tree_types.specs.declared.content.EventContent.{EventContent}
 use Rattle.tree_types.specs.NamesAscend.{NamesAscend}
 use Rattle.tree_types.specs.Nodes.{no_parent}
 
@@ -9,5 +13,15 @@ use Rattle.tree_types.specs.Nodes.{no_parent}
 pub record IsWritable (c : Content) : Type 0 where
   pub names : NamesAscend c.names
   pub columns : length c.profiles ≡ c.columns
+  pub lists : length c.contexts ≡ length c.nodes
+  pub nodes : length c.nodes ≤ no_parent
+
+-- the same of a content of several events: events that a run may have, and one run, with 16 harts at most
+pub record IsEventWritable (c : EventContent) : Type 0 where
+  pub events : AreEvents c.events
+  pub one_run : length c.runs ≡ 1
+  pub most_harts : All (λ h. h ≤ most_harts) c.runs
+  pub names : NamesAscend c.names
+  pub columns : length c.profiles ≡ columns_of (length c.events) c.runs
   pub lists : length c.contexts ≡ length c.nodes
   pub nodes : length c.nodes ≤ no_parent

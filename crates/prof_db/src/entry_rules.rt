@@ -1,14 +1,16 @@
 //! The sixth rule of a database, but for the second of its parts: the entries of the profile plane, and the samples of
 //! the statements.
-ghost use Rattle.std.specs.Prelude.{◌≡◌, ◌<◌, ◌≤◌, ◌++◌, ◌∷◌, ◌==◌, ◌%◌, ◌&&◌, ◌||◌, [], not, length, filter, map};
-ghost use Rattle.std.specs.Prelude.{sum_by, take, All, IfOk, OnOk};
+ghost use Rattle.std.specs.Prelude.{◌≡◌, ◌+◌, ◌-◌, ◌<◌, ◌≤◌, ◌^◌, ◌++◌, ◌∷◌, ◌==◌, ◌%◌, ◌&&◌, ◌||◌, [], not};
+ghost use Rattle.std.specs.Prelude.{length, filter, map, nat_le, sum_by, take, All, IfOk, OnOk};
 ghost use Rattle.prof_bytes.specs.Outcome.{Gives};
+ghost use Rattle.scope_types.specs.Columns.{period_of_column};
 ghost use Rattle.scope_types.specs.Limits.{most_samples};
 ghost use Rattle.tree_types.specs.Tree.{node_at};
 ghost use Rattle.prof_db.specs.ValueRules.{entry_count, entries_ascend, entries_kept, entry_breaks, is_exclusive_entry};
 ghost use Rattle.prof_db.specs.NodeRules.{is_statement};
 ghost use Rattle.prof_db.specs.ValueRules.{entry_at};
 ghost use Rattle.prof_db.specs.ValueRules.{is_value, sampled_nodes, entry_samples, statements_kept};
+ghost use Rattle.prof_db.specs.private.Heads.{ArePeriods};
 
 use crate::fault::DbFault;
 use crate::fields::fault_at;
@@ -27,34 +29,45 @@ fn is_exclusive(e: RawEntry) -> bool
     e.kind == 0
 }
 
-fn entry_samples(period: u32, e: RawEntry) -> u64
-    requires { 0 < period }
-    ensures { result ≡ entry_samples period e }
+/// The period of a column: the columns take turns with the periods.
+fn period_of(periods: &[u32], column: u64) -> u64
+    requires some { 0 < length periods.now }
+    ensures { result ≡ period_of_column periods.now column }
+{
+    u64::from(periods[(column % periods.len() as u64) as usize])
+}
+
+fn entry_samples(periods: &[u32], e: RawEntry) -> u64
+    requires periods { ArePeriods periods.now }
+    ensures { result ≡ entry_samples (period_of_column periods.now) e }
 {
     if is_exclusive(e) {
-        e.value / u64::from(period)
+        e.value / period_of(periods, e.column)
     } else {
         0
     }
 }
 
 /// Whether an exclusive value may be at its node.
-fn is_whole(period: u32, nodes: &[Node], e: RawEntry) -> bool
-    requires period { 0 < period }
+fn is_whole(periods: &[u32], nodes: &[Node], e: RawEntry) -> bool
+    requires periods { ArePeriods periods.now }
     requires node { e.node < length nodes.now }
     ensures { result ≡ (not (is_exclusive_entry e)
-        || (is_statement (node_at nodes.now e.node).scope && e.value % period == 0)) }
+        || (is_statement (node_at nodes.now e.node).scope
+        && e.value % period_of_column periods.now e.column == 0)) }
 {
     !is_exclusive(e)
-        || (is_statement(nodes[e.node as usize].scope) && e.value % u64::from(period) == 0)
+        || (is_statement(nodes[e.node as usize].scope)
+            && e.value % period_of(periods, e.column) == 0)
 }
 
-fn is_value(period: u32, columns: u32, nodes: &[Node], e: RawEntry) -> bool
-    requires { 0 < period }
-    ensures { result ≡ is_value period columns nodes.now e }
+fn is_value(periods: &[u32], columns: u32, nodes: &[Node], e: RawEntry) -> bool
+    requires periods { ArePeriods periods.now }
+    ensures { result ≡ is_value (period_of_column periods.now) columns nodes.now e }
 {
     (e.node as usize) < nodes.len()
-        && (e.column < columns && (e.kind < 3 && (e.value != 0 && is_whole(period, nodes, e))))
+        && (e.column < u64::from(columns)
+            && (e.kind < 3 && (e.value != 0 && is_whole(periods, nodes, e))))
 }
 
 fn entries_ascend(e: RawEntry, f: RawEntry) -> bool
@@ -63,58 +76,77 @@ fn entries_ascend(e: RawEntry, f: RawEntry) -> bool
     e.column < f.column || (e.column == f.column && pair_less(e.node, e.kind, f.node, f.kind))
 }
 
+/// Whether entry `i` comes after the one before it.
+fn is_next(entries: &[RawEntry], i: usize) -> bool
+    requires { i < length entries.now }
+    ensures { result ≡ (i == 0 || entries_ascend (entry_at entries.now (i - 1)) (entry_at entries.now i)) }
+{
+    i == 0 || entries_ascend(entries[i - 1], entries[i])
+}
+
+/// Whether the entries up to entry `i` count few enough samples, where those before it count `samples` samples.
+fn has_room(periods: &[u32], entries: &[RawEntry], i: usize, samples: u64) -> bool
+    requires periods { ArePeriods periods.now }
+    requires index { i < length entries.now }
+    requires samples { samples ≡ sum_by (entry_samples (period_of_column periods.now)) (take i entries.now) }
+    requires few { samples ≤ most_samples }
+    ensures { result
+        ≡ nat_le (sum_by (entry_samples (period_of_column periods.now)) (take (i + 1) entries.now)) most_samples }
+{
+    entry_samples(periods, entries[i]) <= u64::from(MOST_SAMPLES) - samples
+}
+
 /// Whether entry `i` breaks the rule, where those before it count `samples` samples.
 fn entry_is_broken(
-    period: u32,
+    periods: &[u32],
     columns: u32,
     nodes: &[Node],
     entries: &[RawEntry],
     i: usize,
     samples: u64,
 ) -> bool
-    requires period { 0 < period }
+    requires periods { ArePeriods periods.now }
     requires index { i < length entries.now }
-    requires samples { samples ≡ sum_by (entry_samples period) (take i entries.now) }
+    requires samples { samples ≡ sum_by (entry_samples (period_of_column periods.now)) (take i entries.now) }
     requires few { samples ≤ most_samples }
-    ensures { result ≡ entry_breaks period columns nodes.now entries.now i }
+    ensures { result ≡ entry_breaks (period_of_column periods.now) columns nodes.now entries.now i }
 {
-    let e = entries[i];
-    !(is_value(period, columns, nodes, e)
-        && ((i == 0 || entries_ascend(entries[i - 1], e))
-            && entry_samples(period, e) <= u64::from(MOST_SAMPLES) - samples))
+    !(is_value(periods, columns, nodes, entries[i])
+        && (is_next(entries, i) && has_room(periods, entries, i, samples)))
 }
 
 /// Each entry by itself, and the sum of all samples.
 pub(crate) fn judge_entries(
-    period: u32,
+    periods: &[u32],
     columns: u32,
     nodes: &[Node],
     entries: &[RawEntry],
 ) -> Result<(), DbFault>
-    requires { 0 < period }
-    ensures { entries_kept period columns nodes.now entries.now ≡ result }
+    requires { ArePeriods periods.now }
+    ensures { entries_kept (period_of_column periods.now) columns nodes.now entries.now ≡ result }
 {
     let mut samples: u64 = 0;
     for i in 0..entries.len() {
-        if entry_is_broken(period, columns, nodes, entries, i, samples) {
+        if entry_is_broken(periods, columns, nodes, entries, i, samples) {
             return Err(fault_at(6, entry_offset(entries, i)));
         }
-        samples += samples_at(period, entries, i);
+        samples += samples_at(periods, entries, i);
     }
     Ok(())
 }
 
-fn put_count(counts: &mut Vec<NodeCount>, period: u32, e: RawEntry) -> Result<(), Memory>
-    requires period { 0 < period }
-    requires few { entry_samples period e ≤ most_samples }
+fn put_count(counts: &mut Vec<NodeCount>, periods: &[u32], e: RawEntry) -> Result<(), Memory>
+    requires periods { ArePeriods periods.now }
+    requires few { entry_samples (period_of_column periods.now) e ≤ most_samples }
+    requires column { e.column < 2 ^ 32 }
     ensures { OnOk result (counts.new.items
-        ≡ counts.old.items ++ map (entry_count period) (filter is_exclusive_entry (e ∷ []))) }
+        ≡ counts.old.items ++ map (entry_count (period_of_column periods.now)) (filter is_exclusive_entry (e ∷ []))) }
 {
     if is_exclusive(e) {
         counts.push(NodeCount {
             node: e.node,
-            column: e.column,
-            count: (e.value / u64::from(period)) as u32,
+            column: e.column as u32,
+            count: (e.value / period_of(periods, e.column)) as u32,
         })?;
     }
     Ok(())
@@ -123,16 +155,18 @@ fn put_count(counts: &mut Vec<NodeCount>, period: u32, e: RawEntry) -> Result<()
 /// How many samples end at each node for each column, in the order of the file.
 pub(crate) fn counts_in(
     alloc: Global,
-    period: u32,
+    periods: &[u32],
     entries: &[RawEntry],
 ) -> Result<Vec<NodeCount>, Memory>
-    requires period { 0 < period }
-    requires few { All (λ e. entry_samples period e ≤ most_samples) entries.now }
-    ensures { IfOk result (λ counts. counts.items ≡ map (entry_count period) (filter is_exclusive_entry entries.now)) }
+    requires periods { ArePeriods periods.now }
+    requires few { All (λ e. entry_samples (period_of_column periods.now) e ≤ most_samples) entries.now }
+    requires columns { All (λ e. e.column < 2 ^ 32) entries.now }
+    ensures { IfOk result (λ counts. counts.items
+        ≡ map (entry_count (period_of_column periods.now)) (filter is_exclusive_entry entries.now)) }
 {
     let mut counts = Vec::new(alloc);
     for e in entries {
-        put_count(&mut counts, period, *e)?;
+        put_count(&mut counts, periods, *e)?;
     }
     Ok(counts)
 }
@@ -163,12 +197,12 @@ fn entry_offset(entries: &[RawEntry], i: usize) -> u64
     entries[i].offset
 }
 
-fn samples_at(period: u32, entries: &[RawEntry], i: usize) -> u64
-    requires period { 0 < period }
+fn samples_at(periods: &[u32], entries: &[RawEntry], i: usize) -> u64
+    requires periods { ArePeriods periods.now }
     requires index { i < length entries.now }
-    ensures { result ≡ entry_samples period (entry_at entries.now i) }
+    ensures { result ≡ entry_samples (period_of_column periods.now) (entry_at entries.now i) }
 {
-    entry_samples(period, entries[i])
+    entry_samples(periods, entries[i])
 }
 
 /// Each statement has samples. `numbers` are those of the nodes that have.

@@ -1,32 +1,14 @@
 //! The entries of a database's lists, each by itself.
 ghost use Rattle.prof_bytes.specs.Outcome.{GivesAt, GivesFrom};
-ghost use Rattle.prof_db.specs.Layout.{call_from, file_from, head_from, inline_from, line_from, node_from, past_entry};
+ghost use Rattle.prof_db.specs.Layout.{call_from, file_from, inline_from, line_from, node_from, past_entry};
 ghost use Rattle.prof_db.specs.Layout.{proc_from, root_from, scope_from, stmt_from, stored_address_from};
 ghost use Rattle.prof_db.specs.Layout.{stored_entry_from, stored_frame_from, stored_row_from};
 
 use crate::fault::DbFault;
 use crate::fields::{not_whole, read_long, read_text, read_word};
-use crate::raw::{Head, RawEntry, RawFile, RawLine, RawNode, RawProc, RawScope};
+use crate::raw::{RawEntry, RawFile, RawLine, RawNode, RawProc, RawScope};
 use prof_bytes::{Cursor, Fail};
 use std::alloc::Global;
-
-#[tactic(auto, unfolding(crate::specs::Layout::head_from))]
-pub(crate) fn read_head(cursor: &mut Cursor<'_>) -> Result<Head, DbFault>
-    ensures { GivesAt (λ head. head) result cursor.new (head_from cursor.old) }
-{
-    let period = read_word(cursor)?;
-    let columns = read_word(cursor)?;
-    let procs = read_word(cursor)?;
-    let files = read_word(cursor)?;
-    let nodes = read_word(cursor)?;
-    Ok(Head {
-        period,
-        columns,
-        procs,
-        files,
-        nodes,
-    })
-}
 
 #[tactic(auto, unfolding(crate::specs::Layout::proc_from))]
 pub(crate) fn read_proc(alloc: Global, cursor: &mut Cursor<'_>) -> Result<RawProc, Fail<DbFault>>
@@ -160,7 +142,7 @@ pub(crate) fn read_node(cursor: &mut Cursor<'_>) -> Result<RawNode, DbFault>
 }
 
 #[tactic(auto, unfolding(crate::specs::Layout::stored_entry_from))]
-pub(crate) fn read_entry(cursor: &mut Cursor<'_>, column: u32) -> Result<RawEntry, DbFault>
+pub(crate) fn read_entry(cursor: &mut Cursor<'_>, column: u64) -> Result<RawEntry, DbFault>
     ensures { GivesAt (λ entry. entry) result cursor.new (stored_entry_from column cursor.old) }
 {
     let offset = cursor.place() as u64;

@@ -1,23 +1,68 @@
-ghost use Rattle.std.specs.Prelude.{◌≡◌, ℕ, ◌<◌, true, List, length, Ok, IfOk};
+//! The laws of databases: what is written is read as what it was, and what is read is spelled by the bytes read.
+ghost use Rattle.std.specs.Prelude.{◌≡◌, ℕ, ◌<◌, [], ◌∷◌, true, List, length, Ok, IfOk};
 ghost use Rattle.prof_bytes.specs.Number.{IsBytes};
 ghost use Rattle.scope_types.specs.CallPaths.{ColumnPath};
+ghost use Rattle.scope_types.specs.Columns.{paths_of_event};
 ghost use Rattle.scope_types.specs.Expansion.{FoundAt, call_path};
 ghost use Rattle.scope_types.specs.Raw.{Raw};
-ghost use Rattle.tree_types.specs.Database.{content_of};
+ghost use Rattle.scope_types.specs.declared.event.EventPeriod.{EventPeriod};
+ghost use Rattle.tree_types.specs.Database.{content_of, event_content_of, period_at};
 ghost use Rattle.tree_types.specs.Naming.{Naming};
-ghost use Rattle.tree_types.specs.OfContent.{IsProfile, content_table};
+ghost use Rattle.tree_types.specs.OfContent.{IsEventProfile, IsProfile, content_of_event, content_table};
 ghost use Rattle.tree_types.specs.TopDown.{top_down};
 ghost use Rattle.tree_types.specs.declared.content.Content.{Content};
+ghost use Rattle.tree_types.specs.declared.content.EventContent.{EventContent};
 ghost use Rattle.prof_db.specs.Laws.{LinesHaveRoom};
-ghost use Rattle.prof_db.specs.Rules.{database_in};
-ghost use Rattle.prof_db.specs.Spelling.{database_spelling};
-ghost use Rattle.prof_db.specs.Stored.{AreStored, IsStored, is_call_path};
-ghost use Rattle.prof_db.specs.Writable.{IsWritable};
+ghost use Rattle.prof_db.specs.Rules.{database_in, events_in};
+ghost use Rattle.prof_db.specs.Spelling.{database_spelling, events_spelling};
+ghost use Rattle.prof_db.specs.Stored.{AreEventsStored, AreStored, IsEventStored, IsStored, is_call_path};
+ghost use Rattle.prof_db.specs.Writable.{IsEventWritable, IsWritable};
 
 /// A database can be written of each content that a profile may have.
 #[tactic(auto, using(crate::proofs::Profiles::writable_laws))]
 pub fn profiles_are_writable()
     ensures { (c : Content) → IsProfile c → IsWritable c }
+{}
+
+/// A database can be written of each content that a profile of several events and one run may have.
+pub fn event_profiles_are_writable()
+    ensures { (c : EventContent) → IsEventProfile c → length c.runs ≡ 1 → IsEventWritable c }
+{}
+
+/// What is read of a database is a content that a profile of several events may have, of one run.
+pub fn event_databases_are_profiles()
+    ensures profile { (bytes : List ℕ) (c : EventContent) → events_in bytes ≡ Ok c → IsEventProfile c }
+    ensures one_run { (bytes : List ℕ) (c : EventContent) → events_in bytes ≡ Ok c → length c.runs ≡ 1 }
+{}
+
+/// What is read of a database of any version is spelled by just its bytes, and so is read again of its spelling.
+pub fn event_databases_are_spelled()
+    ensures bytes { (bytes : List ℕ) (c : EventContent) → IsBytes bytes → events_in bytes ≡ Ok c
+        → bytes ≡ events_spelling c }
+    ensures again { (bytes : List ℕ) (c : EventContent) → IsBytes bytes → events_in bytes ≡ Ok c
+        → events_in (events_spelling c) ≡ Ok c }
+{}
+
+/// What is written of a stored content of several events is read as that content.
+pub fn stored_event_contents_are_read()
+    ensures { (c : EventContent) → IsEventStored c → events_in (events_spelling c) ≡ Ok c }
+{}
+
+/// The content of the call paths of a run, within a profile's limits, is stored: it is read of what is written of it,
+/// and for each event it has the table of that event's paths.
+pub fn event_call_paths_are_stored()
+    ensures stored { (events : List EventPeriod) (harts : ℕ) (naming : Naming) (paths : List ColumnPath)
+        → AreEventsStored events harts naming paths
+        → IsEventStored (event_content_of events (harts ∷ []) naming paths) }
+    ensures read { (events : List EventPeriod) (harts : ℕ) (naming : Naming) (paths : List ColumnPath)
+        → AreEventsStored events harts naming paths
+        → events_in (events_spelling (event_content_of events (harts ∷ []) naming paths))
+        ≡ Ok (event_content_of events (harts ∷ []) naming paths) }
+    ensures table { (events : List EventPeriod) (harts : ℕ) (naming : Naming) (paths : List ColumnPath) (place : ℕ)
+        → AreEventsStored events harts naming paths → place < length events
+        → IfOk (events_in (events_spelling (event_content_of events (harts ∷ []) naming paths)))
+        (λ c. content_table (content_of_event c place)
+        ≡ top_down (period_at events place) harts naming (paths_of_event (length events) place paths)) }
 {}
 
 /// What is read of a database is a content that a profile may have.

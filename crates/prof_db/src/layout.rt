@@ -1,17 +1,16 @@
 //! The whole of a database cut into fields: its first two rules.
-ghost use Rattle.std.specs.Prelude.{◌≡◌, []};
-ghost use Rattle.prof_bytes.specs.Format.{magic_or};
+ghost use Rattle.std.specs.Prelude.{◌≡◌, ◌<◌, ◌^◌, [], length, IfOk};
 ghost use Rattle.prof_bytes.specs.Outcome.{Gives, GivesAt, GivesFrom};
 ghost use Rattle.prof_bytes.specs.Repeated.{adding, times};
-ghost use Rattle.prof_db.specs.Fields.{fault};
+ghost use Rattle.scope_types.specs.Columns.{columns_of};
 ghost use Rattle.prof_db.specs.Layout.{body_from, list_from, file_from, layout_in, stored_entry_from};
 ghost use Rattle.prof_db.specs.Layout.{node_from};
 ghost use Rattle.prof_db.specs.Layout.{past_list, past_entry, proc_from};
-ghost use Rattle.prof_db.specs.Spelling.{database_magic};
 
 use crate::fault::DbFault;
-use crate::fields::{fault_at, not_whole, read_word};
-use crate::items::{pass_entry, read_entry, read_file, read_head, read_node, read_proc};
+use crate::fields::{not_whole, read_word};
+use crate::head::{read_head, version_in};
+use crate::items::{pass_entry, read_entry, read_file, read_node, read_proc};
 use crate::raw::{Head, Layout, RawEntry, RawFile, RawNode, RawProc};
 use prof_bytes::{Cursor, Fail, Listed};
 use std::alloc::Global;
@@ -68,7 +67,7 @@ fn read_nodes(
 fn read_entries(
     cursor: &mut Cursor<'_>,
     entries: &mut Vec<RawEntry>,
-    column: u32,
+    column: u64,
     count: u32,
 ) -> Result<(), Fail<DbFault>>
     ensures { GivesFrom (λ done. entries.new.items) result cursor.new
@@ -86,7 +85,7 @@ fn read_entries(
 fn read_list(
     cursor: &mut Cursor<'_>,
     entries: &mut Vec<RawEntry>,
-    column: u32,
+    column: u64,
 ) -> Result<(), Fail<DbFault>>
     ensures { GivesFrom (λ done. entries.new.items) result cursor.new
         (list_from column entries.old.items cursor.old) }
@@ -99,7 +98,7 @@ fn read_list(
 fn read_lists(
     alloc: Global,
     cursor: &mut Cursor<'_>,
-    columns: u32,
+    columns: u64,
 ) -> Result<Vec<RawEntry>, Fail<DbFault>>
     ensures { GivesFrom (λ v. v.items) result cursor.new (times list_from columns 0 [] cursor.old) }
 {
@@ -139,6 +138,15 @@ fn pass_lists(cursor: &mut Cursor<'_>, nodes: u32) -> Result<(), DbFault>
     Ok(())
 }
 
+/// How many columns a run has, where so many events are sampled.
+pub(crate) fn columns_of(events: usize, runs: &[u32]) -> u64
+    requires events { events < 2 ^ 32 }
+    requires runs { length runs.now ≡ 1 }
+    ensures { result ≡ columns_of events runs.now }
+{
+    u64::from(runs[0]) * events as u64
+}
+
 /// The lists that a head counts, the planes, and nothing after them.
 #[tactic(auto, unfolding(crate::specs::Layout::body_from))]
 fn read_body<'a>(
@@ -146,21 +154,26 @@ fn read_body<'a>(
     cursor: &mut Cursor<'a>,
     head: Head,
 ) -> Result<Layout<'a>, Fail<DbFault>>
-    ensures { Gives (λ layout. layout) result (body_from head cursor.old) }
+    requires run { length head.runs ≡ 1 }
+    requires events { length head.events < 2 ^ 32 }
+    ensures layout { Gives (λ layout. layout) result (body_from head cursor.old) }
+    ensures run { IfOk result (λ layout. length layout.runs ≡ 1) }
 {
     let procs = read_procs(alloc, cursor, head.procs)?;
     let files = read_files(alloc, cursor, head.files)?;
     let nodes = read_nodes(alloc, cursor, head.nodes)?;
     let profiles = cursor.fork();
-    let entries = read_lists(alloc, cursor, head.columns)?;
+    let columns = columns_of(head.events.items().len(), head.runs.items());
+    let entries = read_lists(alloc, cursor, columns)?;
     let contexts = cursor.fork();
     pass_lists(cursor, head.nodes)?;
     if cursor.left() > 0 {
         return Err(Fail::Fault(not_whole(cursor.place())));
     }
     Ok(Layout {
-        period: head.period,
-        columns: head.columns,
+        version: head.version,
+        events: head.events,
+        runs: head.runs,
         procs: Listed::of(procs),
         files: Listed::of(files),
         nodes: Listed::of(nodes),
@@ -170,22 +183,14 @@ fn read_body<'a>(
     })
 }
 
-/// A cursor after the eight bytes that a database begins with.
-fn after_magic(bytes: &[u8]) -> Result<Cursor<'_>, DbFault>
-    ensures { magic_or (fault 1 0) database_magic bytes.now ≡ result }
-{
-    if bytes.len() < 8 || &bytes[..8] != b"HPCPROF1".as_slice() {
-        return Err(fault_at(1, 0));
-    }
-    Ok(Cursor::at(bytes, 8))
-}
-
 /// The layout of a database, in time linear in the bytes.
 #[tactic(auto, unfolding(crate::specs::Layout::layout_in))]
 pub(crate) fn read_layout(alloc: Global, bytes: &[u8]) -> Result<Layout<'_>, Fail<DbFault>>
-    ensures { Gives (λ layout. layout) result (layout_in bytes.now) }
+    ensures layout { Gives (λ layout. layout) result (layout_in bytes.now) }
+    ensures run { IfOk result (λ layout. length layout.runs ≡ 1) }
 {
-    let mut cursor = after_magic(bytes)?;
-    let head = read_head(&mut cursor)?;
+    let version = version_in(bytes)?;
+    let mut cursor = Cursor::at(bytes, 8);
+    let head = read_head(alloc, &mut cursor, version)?;
     read_body(alloc, &mut cursor, head)
 }

@@ -1,4 +1,5 @@
-//! The database file: a content as bytes, by this project's format of version 1.
+//! The database file: a content as bytes, by this project's format. Version 1 has retired alone, version 2 other events
+//! too.
 //!
 //! It promises that what is written is byte for byte the content's spelling, and that what is read is just what the
 //! bytes say, or the first of the format's seven rules that they break, with its offset. Below lie `sparse_planes`
@@ -9,6 +10,8 @@
 mod entry_rules;
 mod fault;
 mod fields;
+mod head;
+mod head_rules;
 mod items;
 mod laws;
 mod layout;
@@ -19,11 +22,14 @@ mod plane_fields;
 mod raw;
 mod read;
 mod write;
+mod write_head;
 
 pub use fault::DbFault;
 pub use laws::{
     ancestor_count_is_at_most_number, call_paths_are_stored, databases_are_profiles,
-    databases_are_spelled, profiles_are_writable, stored_contents_are_read,
+    databases_are_spelled, event_call_paths_are_stored, event_databases_are_profiles,
+    event_databases_are_spelled, event_profiles_are_writable, profiles_are_writable,
+    stored_contents_are_read, stored_event_contents_are_read,
 };
-pub use read::read_db;
-pub use write::write_db;
+pub use read::{read_any, read_db};
+pub use write::{write_db, write_events};

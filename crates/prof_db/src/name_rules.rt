@@ -1,9 +1,8 @@
-//! The third and the fourth rule of a database: the head, and the names.
+//! The fourth rule of a database: the names.
 ghost use Rattle.std.specs.Prelude.{◌≡◌, ◌<◌, ◌++◌, ◌||◌, not, length, map, IfOk, OnOk};
 ghost use Rattle.prof_bytes.specs.Outcome.{Gives};
-ghost use Rattle.tree_types.specs.Nodes.{no_parent};
 ghost use Rattle.prof_db.specs.NameRules.{file_at, proc_at};
-ghost use Rattle.prof_db.specs.NameRules.{file_is_wrong, file_name, files_ascend, files_kept, head_kept, is_valid_proc};
+ghost use Rattle.prof_db.specs.NameRules.{file_is_wrong, file_name, files_ascend, files_kept, is_valid_proc};
 ghost use Rattle.prof_db.specs.NameRules.{line_file, names_in, names_kept, pair_less, proc_id, proc_is_wrong};
 ghost use Rattle.prof_db.specs.NameRules.{raw_proc_name};
 ghost use Rattle.prof_db.specs.NameRules.{procs_ascend, procs_kept, scope_file, scope_proc, used_files, used_procs};
@@ -14,26 +13,9 @@ use crate::marks::{is_marked, marks};
 use crate::raw::{Layout, RawFile, RawLine, RawNode, RawProc, RawScope};
 use prof_bytes::{Fail, Listed, Memory, Text};
 use scope_types::ProcId;
-use scope_types::limits::{MOST_HARTS, MOST_NAME_BYTES};
+use scope_types::limits::MOST_NAME_BYTES;
 use std::alloc::Global;
-use tree_types::{FileName, NO_PARENT, Names, ProcName};
-
-pub(crate) fn judge_head(period: u32, columns: u32, nodes: usize) -> Result<(), DbFault>
-    ensures kept { head_kept period columns nodes ≡ result }
-    ensures period { OnOk result (0 < period) }
-    ensures nodes { OnOk result (nodes < no_parent) }
-{
-    if period == 0 {
-        return Err(fault_at(3, 8));
-    }
-    if columns == 0 || columns > MOST_HARTS as u32 {
-        return Err(fault_at(3, 12));
-    }
-    if nodes >= NO_PARENT as usize {
-        return Err(fault_at(3, 24));
-    }
-    Ok(())
-}
+use tree_types::{FileName, Names, ProcName};
 
 fn put_scope_proc(used: &mut Vec<u32>, scope: RawScope) -> Result<(), Memory>
     ensures { OnOk result (used.new.items ≡ used.old.items ++ scope_proc scope) }

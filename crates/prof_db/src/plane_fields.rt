@@ -1,5 +1,5 @@
 //! The fields of a plane, compared with the bytes of a database.
-ghost use Rattle.std.specs.Prelude.{◌≡◌, ◌<◌, ◌^◌, ◌∷◌, [], length};
+ghost use Rattle.std.specs.Prelude.{◌<◌, ◌^◌, ◌∷◌, [], length};
 ghost use Rattle.std.specs.List.{flat_map};
 ghost use Rattle.prof_bytes.specs.Outcome.{GivesAt};
 ghost use Rattle.prof_db.specs.private.Marks.{Stands};
@@ -90,16 +90,12 @@ fn same_context_list(cursor: &mut Cursor<'_>, entries: &[ContextEntry]) -> Resul
     same_context_entries(cursor, entries)
 }
 
-fn same_profile_lists(
-    cursor: &mut Cursor<'_>,
-    columns: u32,
-    plane: &ProfilePlane,
-) -> Result<(), DbFault>
-    requires { length plane.now ≡ columns }
+fn same_profile_lists(cursor: &mut Cursor<'_>, plane: &ProfilePlane) -> Result<(), DbFault>
+    requires { length plane.now < 2 ^ 32 }
     ensures { GivesAt (λ done. done) result cursor.new
         (fields_kept 6 (plane_fields profile_fields plane.now) cursor.old) }
 {
-    for column in 0..columns {
+    for column in 0..plane.columns() {
         same_profile_list(cursor, plane.column(column))?;
     }
     Ok(())
@@ -117,16 +113,12 @@ fn same_context_lists(cursor: &mut Cursor<'_>, plane: &ContextPlane) -> Result<(
 }
 
 /// The profile plane's fields are there, or the first that differs is at fault.
-pub(crate) fn judge_profiles(
-    cursor: &Cursor<'_>,
-    columns: u32,
-    plane: &ProfilePlane,
-) -> Result<(), DbFault>
-    requires { length plane.now ≡ columns }
+pub(crate) fn judge_profiles(cursor: &Cursor<'_>, plane: &ProfilePlane) -> Result<(), DbFault>
+    requires { length plane.now < 2 ^ 32 }
     ensures { Stands result (fields_kept 6 (plane_fields profile_fields plane.now) cursor.now) }
 {
     let mut ahead = cursor.fork();
-    same_profile_lists(&mut ahead, columns, plane)
+    same_profile_lists(&mut ahead, plane)
 }
 
 /// The context plane's fields are there, or the first that differs is at fault.

@@ -2,11 +2,30 @@
 
 use prof_bytes::{Cursor, Listed, Text};
 
-/// The numbers that a database begins with, after its first eight bytes.
+/// Which version of the format a database has, by the eight bytes that it begins with. Versions differ in their heads
+/// alone.
+#[derive(Clone, Copy, Debug, PartialEq, Eq, Drop)]
+pub enum Version {
+    /// One run in which retired is the only event.
+    One,
+    /// One run with any events.
+    Two,
+}
+
+/// An event by its number, and its period.
 #[derive(Clone, Copy, Drop)]
-pub struct Head {
+pub struct RawEvent {
+    pub event: u32,
     pub period: u32,
-    pub columns: u32,
+}
+
+/// What the head of a database says, in whichever version: the events with their periods, the harts of each run, and
+/// how many procedures, files and nodes there are.
+#[derive(Drop)]
+pub struct Head {
+    pub version: Version,
+    pub events: Listed<RawEvent>,
+    pub runs: Listed<u32>,
     pub procs: u32,
     pub files: u32,
     pub nodes: u32,
@@ -59,18 +78,18 @@ pub struct RawNode {
 #[derive(Clone, Copy, Drop)]
 pub struct RawEntry {
     pub offset: u64,
-    pub column: u32,
+    pub column: u64,
     pub node: u32,
     pub kind: u32,
     pub value: u64,
 }
 
-/// All of it, but the entries of the context plane; and where the two planes begin. In version 1 of the format each
-/// hart has a column, so that the number of harts in the head is that of columns.
+/// All of it, but the entries of the context plane; and where the two planes begin.
 #[derive(Drop)]
 pub struct Layout<'a> {
-    pub period: u32,
-    pub columns: u32,
+    pub version: Version,
+    pub events: Listed<RawEvent>,
+    pub runs: Listed<u32>,
     pub procs: Listed<RawProc>,
     pub files: Listed<RawFile>,
     pub nodes: Listed<RawNode>,

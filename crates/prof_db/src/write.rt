@@ -4,24 +4,27 @@ ghost use Rattle.std.specs.List.{flat_map};
 ghost use Rattle.scope_types.specs.Words.{root_words, proc_words};
 ghost use Rattle.tree_types.specs.NamesAscend.{NamesAscend};
 ghost use Rattle.tree_types.specs.NodeValues.{kind_rank};
-ghost use Rattle.prof_db.specs.Writable.{IsWritable};
+ghost use Rattle.prof_db.specs.Writable.{IsEventWritable, IsWritable};
 ghost use Rattle.prof_db.specs.Spelling.{text_bytes, procedure_bytes, file_name_bytes, node_bytes};
 ghost use Rattle.prof_bytes.specs.Number.{word, words};
 ghost use Rattle.prof_db.specs.Spelling.{line_numbers, scope_numbers, proc_index, file_index};
-ghost use Rattle.prof_db.specs.Spelling.{profile_entry_bytes, context_entry_bytes, with_count, database_head};
-ghost use Rattle.prof_db.specs.Spelling.{database_spelling};
+ghost use Rattle.prof_db.specs.Spelling.{profile_entry_bytes, context_entry_bytes, with_count, shared_bytes};
+ghost use Rattle.prof_db.specs.Spelling.{database_spelling, events_spelling};
 
+use crate::head::magic_of;
+use crate::raw::Version;
+use crate::write_head::put_head;
 use prof_bytes::{Memory, Text, put_u32, put_u64, put_words};
 use scope_types::{LineId, ProcId, RootKind, Scope};
 use std::alloc::Global;
 use tree_types::{
-    Content, ContextEntry, ContextPlane, FileName, Kind, Names, Node, ProcName, ProfileEntry,
-    ProfilePlane, find_file, find_proc,
+    Content, ContextEntry, ContextPlane, EventContent, FileName, Kind, Names, Node, ProcName,
+    ProfileEntry, ProfilePlane, find_file, find_proc,
 };
 
 /// A count as it is written: its lowest four bytes.
 #[tactic(auto, using(crate::proofs::Writing::low_word))]
-fn count(length: usize) -> u32
+pub(crate) fn count(length: usize) -> u32
     ensures { word result ≡ word length }
 {
     (length % 0x1_0000_0000) as u32
@@ -261,31 +264,76 @@ fn put_contexts(out: &mut Vec<u8>, plane: &ContextPlane) -> Result<(), Memory>
     Ok(())
 }
 
-fn put_head(out: &mut Vec<u8>, content: &Content) -> Result<(), Memory>
-    ensures { OnOk result (out.new.items ≡ out.old.items ++ database_head content.now) }
+/// How many procedures, files and nodes there are.
+fn put_counts(out: &mut Vec<u8>, names: &Names, nodes: &[Node]) -> Result<(), Memory>
+    ensures { OnOk result (out.new.items ≡ out.old.items
+        ++ words (length names.now.procs ∷ length names.now.files ∷ length nodes.now ∷ [])) }
 {
-    let procs = count(content.names.procs.items().len());
-    let files = count(content.names.files.items().len());
-    let nodes = count(content.nodes.items().len());
-    out.extend_from_slice(b"HPCPROF1")?;
-    put_words(out, &[content.period, content.columns, procs, files, nodes])?;
+    let procs = count(names.procs.items().len());
+    let files = count(names.files.items().len());
+    put_words(out, &[procs, files, count(nodes.len())])
+}
+
+/// What all versions share.
+fn put_shared(
+    out: &mut Vec<u8>,
+    names: &Names,
+    nodes: &[Node],
+    columns: u32,
+    profiles: &ProfilePlane,
+    contexts: &ContextPlane,
+) -> Result<(), Memory>
+    requires names { NamesAscend names.now }
+    requires columns { length profiles.now ≡ columns }
+    requires nodes { length contexts.now < 2 ^ 32 }
+    ensures { OnOk result (out.new.items
+        ≡ out.old.items ++ shared_bytes names.now nodes.now profiles.now contexts.now) }
+{
+    put_counts(out, names, nodes)?;
+    put_procs(out, names.procs.items())?;
+    put_files(out, names.files.items())?;
+    put_nodes(out, names, nodes)?;
+    put_profiles(out, columns, profiles)?;
+    put_contexts(out, contexts)?;
     Ok(())
 }
 
-/// The bytes of a database with this content. Names are looked up by binary search; the time grows as the number of
-/// nodes and entries otherwise.
-#[tactic(auto, using(crate::proofs::Writing::six_parts), unfolding(crate::specs::Spelling::database_spelling))]
+/// The bytes of a database with a content of several events: of version 1 where retired is the only one, else of
+/// version 2. Names are looked up by binary search; the time grows as the number of nodes and entries otherwise.
+#[tactic(auto, using(crate::proofs::Profiles::few_profiles), unfolding(crate::specs::Spelling::events_spelling))]
+pub fn write_events(alloc: Global, all: &EventContent) -> Result<Text, Memory>
+    requires { IsEventWritable all.now }
+    ensures { IfOk result (λ text. text ≡ events_spelling all.now) }
+{
+    let mut out = Vec::new(alloc);
+    put_head(&mut out, all)?;
+    put_shared(
+        &mut out,
+        &all.names,
+        all.nodes.items(),
+        all.profiles.columns(),
+        &all.profiles,
+        &all.contexts,
+    )?;
+    Ok(Text::from_vec(out))
+}
+
+/// The bytes of a database of version 1 with this content, in as much time.
+#[tactic(auto, unfolding(crate::specs::Spelling::database_spelling, crate::specs::Spelling::events_spelling))]
 pub fn write_db(alloc: Global, content: &Content) -> Result<Text, Memory>
     requires { IsWritable content.now }
     ensures { IfOk result (λ text. text ≡ database_spelling content.now) }
 {
-    let names = &content.names;
     let mut out = Vec::new(alloc);
-    put_head(&mut out, content)?;
-    put_procs(&mut out, names.procs.items())?;
-    put_files(&mut out, names.files.items())?;
-    put_nodes(&mut out, names, content.nodes.items())?;
-    put_profiles(&mut out, content.columns, &content.profiles)?;
-    put_contexts(&mut out, &content.contexts)?;
+    out.extend_from_slice(magic_of(Version::One))?;
+    put_words(&mut out, &[content.period, content.columns])?;
+    put_shared(
+        &mut out,
+        &content.names,
+        content.nodes.items(),
+        content.columns,
+        &content.profiles,
+        &content.contexts,
+    )?;
     Ok(Text::from_vec(out))
 }

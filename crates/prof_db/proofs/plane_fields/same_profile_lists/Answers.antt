@@ -6,7 +6,7 @@ use Rattle.prof_db.proofs.plane_fields.same_profile_lists.Goals as goal
 
 pub returns-in_err-same_profile_list : goal.returns-in_err-same_profile_list
 returns-in_err-same_profile_list c =
-    let many = c.requires in
+    let many = c.columns-column-end.ensures in
     let before = c.loop-column-test.true in
     let lt : c.loop-column.column < length c.args.plane.now = omega (arith, many, before) in
     let failed : fields_kept 6 (plane_fields profile_fields c.args.plane.now) c.args.cursor.now ≡ Err c.in_err-same_profile_list.field-0.0 =
@@ -15,14 +15,14 @@ returns-in_err-same_profile_list c =
 
 pub loop-column-preserved : goal.loop-column-preserved
 loop-column-preserved c =
-    let many = c.requires in
+    let many = c.columns-column-end.ensures in
     let before = c.loop-column-test.true in
     let lt : c.loop-column.column < length c.args.plane.now = omega (arith, many, before) in
     fields_more 6 (list_fields profile_fields) c.args.plane.now c.loop-column.column c.column.result.now c.column.result.now _ _ _ lt (c.column.ensures ∙ get_or_default c.args.plane.now c.loop-column.column [] c.column.result.now lt) c.in_ok-same_profile_list.ensures c.loop-column.invariant
 
 pub returns : goal.returns
 returns c =
-    let many = c.requires in
+    let many = c.columns-column-end.ensures in
     let past = c.loop-column-test.false in
     let le : length c.args.plane.now ≤ c.loop-column.column = omega (arith, many, past) in
     fields_end 6 (list_fields profile_fields) c.args.plane.now c.loop-column.column _ _ le c.loop-column.invariant
