@@ -39,3 +39,13 @@ pub mod StoredHeads
 pub mod StoredRules
 pub mod VersionOne
 pub mod StoredPaths
+mod EventLists
+mod HartLists
+mod Ranges
+mod EventValues
+mod EventKept
+mod Filtered
+mod NamesFound
+mod EventNumbers
+mod EventColumns
+mod EventWhole

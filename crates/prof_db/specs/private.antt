@@ -1,2 +1,5 @@
 pub mod Heads
 pub mod Marks
+pub mod EventParts
+pub mod EventLists
+pub mod EventNames

@@ -8,6 +8,9 @@
 #![tactic(auto)]
 
 mod entry_rules;
+mod event_names;
+mod event_nodes;
+mod event_planes;
 mod fault;
 mod fields;
 mod head;
@@ -18,6 +21,7 @@ mod layout;
 mod marks;
 mod name_rules;
 mod node_rules;
+mod one_event;
 mod plane_fields;
 mod raw;
 mod read;
@@ -31,5 +35,6 @@ pub use laws::{
     event_databases_are_spelled, event_profiles_are_writable, profiles_are_writable,
     stored_contents_are_read, stored_event_contents_are_read,
 };
+pub use one_event::{event_content, into_content};
 pub use read::{read_any, read_db};
 pub use write::{write_db, write_events};
