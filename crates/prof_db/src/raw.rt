@@ -8,7 +8,7 @@ use prof_bytes::{Cursor, Listed, Text};
 pub enum Version {
     /// One run in which retired is the only event.
     One,
-    /// One run with any events.
+    /// One run with any other events.
     Two,
 }
 
