@@ -94,8 +94,8 @@ class Nodes:
 
 @dataclass
 class Plane:
-    """A column's samples, that is a hart's of one event: the nodes that have some, ascending, their values, and how many
-    samples these are; and the plane's entries as bytes, with the offset of its number of entries."""
+    """A column's samples, that is a hart's of one event: the nodes that have some, ascending, their values, and how
+    many samples these are; and the plane's entries as bytes, with the offset of its number of entries."""
 
     offset: int
     data: bytes

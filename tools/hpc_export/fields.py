@@ -21,7 +21,7 @@ from .database import (
 
 
 def read_fields(data, version):
-    """The database of a version whose fields these bytes are; those of the context plane are asked by `need_context`."""
+    """The database of a version whose fields these bytes are; the context plane's are asked by `need_context`."""
     reader = _Reader(data, 8)
     events = [Event(0, reader.word(), 8, 8)] if version == 1 else _read_events(reader)
     harts_offset = reader.at

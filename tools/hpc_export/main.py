@@ -38,8 +38,8 @@ INVALID, MALFORMED, DEVICE = 2, 3, 4
 
 @dataclass
 class Options:
-    """What a format may be told: its title, which values are shown, and those of each event where a format has several of
-    them, whether places of calls and statements are frames,
+    """What a format may be told: its title, which values are shown, and those of each event where a format has several
+    of them, whether places of calls and statements are frames,
     the share of the total below which scopes are left out, whether the costliest comes first, where sources are, the
     file whose source is written, and why call paths are partial (texts with numbers of samples)."""
 

@@ -1,7 +1,7 @@
 """Rules 6 and 7: both planes are what the exclusive values give.
 
-The samples of all columns are added up in one walk over the nodes: a node's are one number, with 32 bits for each column.
-There are at most 2^20 samples, so no sum touches the next. With these sums each plane is compared as a whole, of many
+The samples of all columns are added up in one walk over the nodes: a node's are one number, with 32 bits for each
+column. There are at most 2^20 samples, so no sum touches the next. With these sums each plane is compared as a whole, of many
 nodes by a process of its own, while this one begins to write the export.
 """
 import struct
@@ -92,8 +92,8 @@ def _is_profile(database, sums):
 
 
 def _is_plane(database, column, counts, fields):
-    """Whether the entries of a column ascend, and are these counts of samples, so many to a node. Exclusive ones are known
-    to be at statements, where they are the frame's."""
+    """Whether the entries of a column ascend, and are these counts of samples, so many to a node. Exclusive ones are
+    known to be at statements, where they are the frame's."""
     plane = database.planes[column]
     words, kinds = numbers("I", plane.data), plane.data[4::16]
     if packed(words[1::4]) != widened(kinds) or not set(kinds) <= {EXCLUSIVE, FRAME, INCLUSIVE}:

@@ -2,7 +2,7 @@
 
 1. the first 8 bytes;
 2. every field lies in the file, tags are known, and nothing follows the last field (fields.py);
-3. events are 1 to 4, ascending, and not the first alone, which is version 1's; periods are at least 1, the harts 1 to 16;
+3. events are 1 to 4, ascending, and not retired alone, which is version 1; periods are at least 1, harts 1 to 16;
 4. procedures and files ascend, and each is used;
 5. the nodes are in preorder, siblings ascend, each scope stands where such a scope may stand;
 6. the profile plane ascends, and is what its exclusive values give (planes.py);
