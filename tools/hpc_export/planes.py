@@ -1,8 +1,8 @@
 """Rules 6 and 7: both planes are what the exclusive values give.
 
 The samples of all columns are added up in one walk over the nodes: a node's are one number, with 32 bits for each
-column. There are at most 2^20 samples, so no sum touches the next. With these sums each plane is compared as a whole, of many
-nodes by a process of its own, while this one begins to write the export.
+column. There are at most 2^20 samples, so no sum touches the next. With these sums each plane is compared as a whole,
+of many nodes by a process of its own, while this one begins to write the export.
 """
 import struct
 from array import array
