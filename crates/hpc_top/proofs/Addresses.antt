@@ -1,7 +1,8 @@
 -- The addresses of a run's instructions have 32 bits.
-use Rattle.std.proofs.Common.{ℕ, zero, suc, ◌+◌, ◌*◌, ◌/◌, ◌%◌, ◌^◌, ◌<◌, ◌==◌, ◌||◌, Bool, true, false, not, cond, nat_lt, int_lt, List, [], ◌∷◌, length, map, filter, get_or, take, min, slice_set, All, Option, Some, None, option_map, arith}
+use Rattle.std.proofs.Common.{◌≡◌, ℕ, zero, suc, ◌+◌, ◌*◌, ◌/◌, ◌%◌, ◌^◌, ◌<◌, ◌≤◌, ◌==◌, ◌||◌, Bool, true, false, not, cond, nat_lt, int_lt, List, [], ◌∷◌, length, map, filter, get_or, take, min, slice_set, All, Option, Some, None, option_map, sym, subst, arith}
 use Rattle.std.specs.List.{AllByRecursion}
-use Rattle.std.proofs.lemmas.List.Elements.{All-append, All-cons, All-filter, All-map}
+use Rattle.std.proofs.lemmas.List.Elements.{All-append, All-cons, All-contains, All-map, All-weaker}
+use Rattle.std.proofs.Math.Nat.{mul-le-mul_right}
 use Rattle.prof_bytes.specs.Number.{number_bytes}
 use Rattle.rv_table.specs.declared.inst.Op.{Op}
 use Rattle.rv_table.specs.declared.inst.Op.TheVariants as ops
@@ -21,14 +22,16 @@ use Rattle.rv_run.specs.declared.hart.HartEnd.TheVariants as ends
 use Rattle.rv_run.specs.State.{HartState, MachineState, first_hart, hart_in, hart_of, is_running, step_state, stepped_hart}
 use Rattle.rv_run.specs.Calls.{Acted, Answered, holds_in, negative, reads, writes, call_numbered, completes, ends_by, ends_all, grouped, with_answer, with_end, only_answers, all_readable, writes_out, room_for, read_into}
 use Rattle.rv_run.specs.Run.{Instant, Run, acts, acts_by, finished, preceded, next_instant, state_after, stepped_machine, run_slice, run_slices}
+use Rattle.scope_types.specs.declared.event.EventPeriod.{EventPeriod}
+use Rattle.scope_types.specs.Columns.{column_of}
 use Rattle.scope_types.specs.Distinct.{ColumnRaw}
 use Rattle.scope_types.specs.Raw.{HasFrames}
 use Rattle.cfi_unwind.specs.Caller.{Words, Unwinding}
 use Rattle.cfi_unwind.specs.Path.{path_of as unwound_by}
 use Rattle.sample_clock.specs.declared.clock.Sample.{Sample}
-use Rattle.sample_clock.specs.Samples.{is_sampled, sample_of, words_of}
+use Rattle.sample_clock.specs.Samples.{IsSampleOf, Paths, sample_of, samples, words_of}
 use Rattle.measure_file.specs.Measurable.{HasWord}
-use Rattle.hpc_top.specs.Samples.{column_raw, sampled}
+use Rattle.hpc_top.specs.Samples.{column_raw, run_columns, sampled}
 
 abbrev pub IsWord : ℕ → Type 0
 IsWord n = n < 2 ^ 32
@@ -222,18 +225,32 @@ PathsHaveFrames = (u : Unwinding) (pc : ℕ) (registers : List ℕ) (words : Wor
 abbrev pub PathsHaveWords : Type 0
 PathsHaveWords = (u : Unwinding) (pc : ℕ) (registers : List ℕ) (words : Words) → pc < 2 ^ 32 → All HasWord (unwound_by u pc registers words).frames
 
-module _ (u : Unwinding) (period n : ℕ) (run : Run) (all : All (IsOf n) run.instants) where
-  each_sample_of : (P : ColumnRaw → Type 0) → ((i : Instant) → IsOf n i → P (column_raw (sample_of (unwound_by u) i))) → All P (sampled (unwound_by u) period run)
-  each_sample_of P holds =
-      All-map P column_raw (map (sample_of (unwound_by u)) (filter (is_sampled period) run.instants))
-      (All-map (λ (s : Sample). P (column_raw s)) (sample_of (unwound_by u)) (filter (is_sampled period) run.instants)
-      (All-filter (is_sampled period) (λ (i : Instant). P (column_raw (sample_of (unwound_by u) i))) run.instants (λ k d lt. holds (get_or run.instants k d) (all k d lt))))
+-- what sample_clock's law says
+abbrev pub OfInstructions : Type 0
+OfInstructions = (path_of : Paths) (events : List EventPeriod) (instants : List Instant) → All (IsSampleOf path_of events instants) (samples path_of events instants)
 
-  pub samples_own : All (λ s. s.column < n) (sampled (unwound_by u) period run)
-  samples_own = each_sample_of (λ s. s.column < n) (λ i is. is.0)
+-- the column of a hart and of a place is one of the run's
+pub column_own : (events harts hart place : ℕ) → hart < harts → place < events → column_of events hart place < harts * events
+column_own events harts hart place own below = (let rows : (hart + 1) * events ≤ harts * events = mul-le-mul_right events (let le : hart + 1 ≤ harts = omega (arith, own) in le) in let one : (hart + 1) * events ≡ hart * events + events = grind arith in omega (arith, rows, one, below))
 
-  pub samples_frames : PathsHaveFrames → All (λ s. HasFrames s.raw.frames) (sampled (unwound_by u) period run)
-  samples_frames frames = each_sample_of (λ s. HasFrames s.raw.frames) (λ i is. frames u i.moment.pc i.registers (words_of i.memory))
+-- what is so of the samples of each instruction, is so of all samples
+each_sample_of : OfInstructions → (path_of : Paths) (events : List EventPeriod) (run : Run) (Q : Instant → Type 0) → All Q run.instants → (P : ColumnRaw → Type 0) → ((i : Instant) (place : ℕ) → Q i → place < length events → P (column_raw (length events) (sample_of path_of i place))) → All P (sampled path_of events run)
+each_sample_of each path_of events run Q all P holds =
+    All-map P (column_raw (length events)) (samples path_of events run.instants)
+    (All-weaker (IsSampleOf path_of events run.instants) (λ (s : Sample). P (column_raw (length events) s))
+    (λ s is. subst (λ (q : Sample). P (column_raw (length events) q)) (sym is.is) (holds is.instant s.event (All-contains Q run.instants is.instant all is.own) is.event)) (samples path_of events run.instants)
+    (each path_of events run.instants))
 
-  pub samples_words : PathsHaveWords → All (λ s. All HasWord s.raw.frames) (sampled (unwound_by u) period run)
-  samples_words words = each_sample_of (λ s. All HasWord s.raw.frames) (λ i is. words u i.moment.pc i.registers (words_of i.memory) is.1)
+pub samples_below : OfInstructions → (path_of : Paths) (events : List EventPeriod) (harts : ℕ) (run : Run) → All (λ i. i.moment.hart < harts) run.instants → All (λ s. s.column < run_columns events harts) (sampled path_of events run)
+samples_below each path_of events harts run own =
+    each_sample_of each path_of events run (λ i. i.moment.hart < harts) own (λ s. s.column < run_columns events harts) (λ i place lt below. column_own (length events) harts i.moment.hart place lt below)
+
+module _ (each : OfInstructions) (u : Unwinding) (events : List EventPeriod) (n : ℕ) (run : Run) (all : All (IsOf n) run.instants) where
+  pub samples_own : All (λ s. s.column < run_columns events n) (sampled (unwound_by u) events run)
+  samples_own = each_sample_of each (unwound_by u) events run (IsOf n) all (λ s. s.column < run_columns events n) (λ i place is below. column_own (length events) n i.moment.hart place is.0 below)
+
+  pub samples_frames : PathsHaveFrames → All (λ s. HasFrames s.raw.frames) (sampled (unwound_by u) events run)
+  samples_frames frames = each_sample_of each (unwound_by u) events run (IsOf n) all (λ s. HasFrames s.raw.frames) (λ i place is below. frames u i.moment.pc i.registers (words_of i.memory))
+
+  pub samples_words : PathsHaveWords → All (λ s. All HasWord s.raw.frames) (sampled (unwound_by u) events run)
+  samples_words words = each_sample_of each (unwound_by u) events run (IsOf n) all (λ s. All HasWord s.raw.frames) (λ i place is below. words u i.moment.pc i.registers (words_of i.memory) is.1)

@@ -1,19 +1,20 @@
 -- The samples that were counted so far.
-use Rattle.std.proofs.Common.{◌≡◌, ℕ, zero, suc, ◌+◌, ◌-◌, ◌<◌, ◌≤◌, Bool, true, false, cond, nat_lt, List, [], ◌∷◌, ◌++◌, length, map, take, filter, sum_by, All, Option, Some, None, Result, Ok, Err, refl, sym, ap, subst, ◌∙◌, arith, append-nil, append_assoc, take_all}
+use Rattle.std.proofs.Common.{◌≡◌, ℕ, zero, suc, ◌+◌, ◌-◌, ◌^◌, ◌<◌, ◌≤◌, Bool, true, false, cond, nat_lt, List, [], ◌∷◌, ◌++◌, length, map, take, sum_by, All, Option, Some, None, Result, Ok, Err, refl, sym, ap, subst, ◌∙◌, arith, append-nil, append_assoc, take_all}
 use Rattle.std.specs.List.{range_with_len}
 use Rattle.std.proofs.lemmas.Bool.Decides.{nat_tests}
 use Rattle.std.proofs.lemmas.List.{length-append, length-map, take-append-le}
 use Rattle.std.proofs.lemmas.List.Sums.{sum_by-cons}
-use Rattle.std.proofs.lemmas.List.Elements.{All-head, All-tail, All-append, All-take, All-map, All-filter}
+use Rattle.std.proofs.lemmas.List.Elements.{All-head, All-tail, All-append, All-take}
 use Rattle.std.proofs.lemmas.Bool.{lt-ltb, le-ltb}
 use Rattle.prof_bytes.specs.declared.fail.Fail.{Fail}
 use Rattle.prof_bytes.specs.declared.fail.Fail.TheVariants as fails
 use Rattle.prof_bytes.specs.Outcome.{◌>>=◌, FailsBy}
-use Rattle.rv_run.specs.Run.{Instant, Run}
+use Rattle.rv_run.specs.Run.{Run}
 use Rattle.rv_run.specs.Progress.{to_come}
 use Rattle.sample_clock.specs.declared.clock.Sample.{Sample}
-use Rattle.sample_clock.specs.Samples.{Paths, is_sampled, sample_of}
-use Rattle.sample_clock.specs.Clock.{Sampling, Given, IsOver, samples_to_come}
+use Rattle.sample_clock.specs.Samples.{Paths}
+use Rattle.sample_clock.specs.Clock.{Sampling, IsOver, samples_to_come}
+use Rattle.scope_types.specs.declared.event.EventPeriod.{EventPeriod}
 use Rattle.scope_types.specs.declared.frame.Counted.{Counted}
 use Rattle.scope_types.specs.Distinct.{ColumnRaw, distinct, frames_in, samples_in}
 use Rattle.scope_types.specs.Limits.{most_samples, most_frames_in_all}
@@ -22,7 +23,7 @@ use Rattle.thread_cct.specs.Adding.{few_frames, too_many}
 use Rattle.command_line.specs.declared.status.InputFault.{InputFault}
 use Rattle.command_line.specs.declared.status.InputFault.TheVariants.{TooManySamples, TooManyFrames as TooMany}
 use Rattle.hpc_top.specs.Samples.{column_raw, within_frames, within_samples, few_samples}
-use Rattle.hpc_top.specs.private.Collecting.{AllCounted, Exceeds, GivesNext, Stops, raws_to_come}
+use Rattle.hpc_top.specs.private.Collecting.{AllCounted, Exceeds, GivesNext, GivesOne, Stops, raws_to_come}
 
 -- ---- the limits
 
@@ -60,159 +61,165 @@ frames_refused tables fail fault is refused = frames_err tables fault (subst (λ
 
 -- ---- so far
 
-pub record SoFar (path_of : Paths) (harts : ℕ) (start now : Sampling) (ccts : List (List Counted)) : Type 0 where
+pub record SoFar (path_of : Paths) (columns events : ℕ) (start now : Sampling) (ccts : List (List Counted)) : Type 0 where
   pub done : List ColumnRaw
   pub parts : raws_to_come path_of start ≡ done ++ raws_to_come path_of now
+  pub same : length now.events ≡ events
   pub met : now.met ≡ length done
   pub few : length done ≤ most_samples
   pub at_end : (to_come now.machine).final ≡ (to_come start.machine).final
-  pub done_harts : All (λ s. s.column < harts) done
-  pub left_harts : All (λ s. s.column < harts) (raws_to_come path_of now)
-  pub counts : ccts ≡ distinct harts done
+  pub done_own : All (λ s. s.column < columns) done
+  pub left_own : All (λ s. s.column < columns) (raws_to_come path_of now)
+  pub counts : ccts ≡ distinct columns done
   pub count : samples_in ccts ≡ length done
   pub fits : frames_in ccts ≤ most_frames_in_all
 
-no_frames : (harts : List ℕ) → sum_by (sum_by (λ (c : Counted). length c.path.frames)) (map (λ (hart : ℕ). []) harts) ≡ 0
+no_frames : (columns : List ℕ) → sum_by (sum_by (λ (c : Counted). length c.path.frames)) (map (λ (column : ℕ). []) columns) ≡ 0
 no_frames [] = refl
-no_frames (hart ∷ harts) =
-    let first = sum_by-cons (sum_by (λ (c : Counted). length c.path.frames)) [] (map (λ (hart : ℕ). []) harts) in
-    let rest = no_frames harts in
+no_frames (column ∷ columns) =
+    let first = sum_by-cons (sum_by (λ (c : Counted). length c.path.frames)) [] (map (λ (column : ℕ). []) columns) in
+    let rest = no_frames columns in
     omega (arith, first, rest)
 
-none_counted : (harts : ℕ) → frames_in (distinct harts []) ≡ 0
+none_counted : (columns : ℕ) → frames_in (distinct columns []) ≡ 0
 unfolding distinct
-none_counted harts = no_frames (range_with_len 0 harts)
+none_counted columns = no_frames (range_with_len 0 columns)
 
-samples_harts : (path_of : Paths) (harts period : ℕ) (instants : List Instant) → All (λ i. i.moment.hart < harts) instants → All (λ s. s.column < harts) (map column_raw (map (sample_of path_of) (filter (is_sampled period) instants)))
-samples_harts path_of harts period instants all =
-    All-map (λ (s : ColumnRaw). s.column < harts) column_raw (map (sample_of path_of) (filter (is_sampled period) instants))
-    (All-map (λ (s : Sample). s.hart < harts) (sample_of path_of) (filter (is_sampled period) instants) (All-filter (is_sampled period) (λ (i : Instant). i.moment.hart < harts) instants all))
-
-pub so_far_first : (path_of : Paths) (harts : ℕ) (start : Sampling) (ccts : List (List Counted)) → start.met ≡ 0 → All (λ i. i.moment.hart < harts) (to_come start.machine).instants → ccts ≡ distinct harts [] → samples_in ccts ≡ 0
-    → SoFar path_of harts start start ccts
-so_far_first path_of harts start ccts none all are count =
+pub so_far_first : (path_of : Paths) (columns events : ℕ) (start : Sampling) (ccts : List (List Counted)) → start.met ≡ 0 → length start.events ≡ events → All (λ s. s.column < columns) (raws_to_come path_of start) → ccts ≡ distinct columns [] → samples_in ccts ≡ 0
+    → SoFar path_of columns events start start ccts
+so_far_first path_of columns events start ccts none same all are count =
     record {
       done = [];
       parts = refl;
+      same = same;
       met = none;
       few = omega arith;
       at_end = refl;
-      done_harts = λ k d lt. absurd (omega arith);
-      left_harts = samples_harts path_of harts start.period (to_come start.machine).instants all;
+      done_own = λ k d lt. absurd (omega arith);
+      left_own = all;
       counts = are;
       count = count;
-      fits = (let zero_is = ap frames_in are ∙ none_counted harts in omega (arith, zero_is));
+      fits = (let zero_is = ap frames_in are ∙ none_counted columns in omega (arith, zero_is));
     }
 
 -- the next sample's
-next_raws : (path_of : Paths) (sample : Sample) (old new : Sampling) → Given path_of sample old new → raws_to_come path_of old ≡ column_raw sample ∷ raws_to_come path_of new
-next_raws path_of sample old new given = ap (map column_raw) given.to_come
+next_raws : (path_of : Paths) (sample : Sample) (events : ℕ) (old new : Sampling) → length old.events ≡ events → GivesOne path_of sample old new → raws_to_come path_of old ≡ column_raw events sample ∷ raws_to_come path_of new
+next_raws path_of sample events old new same gives =
+    ap (map (column_raw (length old.events))) gives.given.to_come
+    ∙ ap (λ (n : ℕ). column_raw n sample ∷ map (column_raw (length old.events)) (samples_to_come path_of new)) same
+    ∙ ap (λ (es : List EventPeriod). column_raw events sample ∷ map (column_raw (length es)) (samples_to_come path_of new)) (sym gives.events)
 
-module _ (path_of : Paths) (harts : ℕ) (start old new : Sampling) (ccts : List (List Counted)) (sofar : SoFar path_of harts start old ccts) where
-  left : (sample : Sample) → Given path_of sample old new → All (λ s. s.column < harts) (column_raw sample ∷ raws_to_come path_of new)
-  left sample given = subst (All (λ (s : ColumnRaw). s.column < harts)) (next_raws path_of sample old new given) sofar.left_harts
+module _ (path_of : Paths) (columns events : ℕ) (start old new : Sampling) (ccts : List (List Counted)) (sofar : SoFar path_of columns events start old ccts) where
+  left : (sample : Sample) → GivesOne path_of sample old new → All (λ s. s.column < columns) (column_raw events sample ∷ raws_to_come path_of new)
+  left sample given = subst (All (λ (s : ColumnRaw). s.column < columns)) (next_raws path_of sample events old new sofar.same given) sofar.left_own
 
-  pub so_far_hart : (sample : Sample) → Given path_of sample old new → length (distinct harts sofar.done) ≡ harts → sample.hart < length ccts
-  so_far_hart sample given many =
-      let lt : sample.hart < harts = All-head (λ (s : ColumnRaw). s.column < harts) (column_raw sample) (raws_to_come path_of new) (left sample given) in
-      let long : length ccts ≡ harts = ap (λ (ts : List (List Counted)). length ts) sofar.counts ∙ many in
+  pub so_far_column : (sample : Sample) → GivesOne path_of sample old new → length (distinct columns sofar.done) ≡ columns → (column_raw events sample).column < length ccts
+  so_far_column sample given many =
+      let lt : (column_raw events sample).column < columns = All-head (λ (s : ColumnRaw). s.column < columns) (column_raw events sample) (raws_to_come path_of new) (left sample given) in
+      let long : length ccts ≡ columns = ap (λ (ts : List (List Counted)). length ts) sofar.counts ∙ many in
       omega (arith, lt, long)
 
-  pub so_far_room : (sample : Sample) → Given path_of sample old new → samples_in ccts < most_samples
+  pub so_far_columns : length (distinct columns sofar.done) ≡ columns → columns < 2 ^ 32 → length ccts < 2 ^ 32
+  so_far_columns many few =
+      let long : length ccts ≡ columns = ap (λ (ts : List (List Counted)). length ts) sofar.counts ∙ many in
+      omega (arith, long, few)
+
+  pub so_far_room : (sample : Sample) → GivesOne path_of sample old new → samples_in ccts < most_samples
   so_far_room sample given =
       let count = sofar.count in
       let met = sofar.met in
-      let one = given.met in
-      let few = given.few in
+      let one = given.given.met in
+      let few = given.given.few in
       omega (arith, count, met, one, few)
 
   -- those that were counted, with this sample
-  module _ (sample : Sample) (given : Given path_of sample old new) (many : length (distinct harts sofar.done) ≡ harts) where
-    all_parts : raws_to_come path_of start ≡ (sofar.done ++ column_raw sample ∷ []) ++ raws_to_come path_of new
-    all_parts = sofar.parts ∙ ap (λ (l : List ColumnRaw). sofar.done ++ l) (next_raws path_of sample old new given) ∙ sym (append_assoc sofar.done (column_raw sample ∷ []) (raws_to_come path_of new))
+  module _ (sample : Sample) (given : GivesOne path_of sample old new) (many : length (distinct columns sofar.done) ≡ columns) where
+    all_parts : raws_to_come path_of start ≡ (sofar.done ++ column_raw events sample ∷ []) ++ raws_to_come path_of new
+    all_parts = sofar.parts ∙ ap (λ (l : List ColumnRaw). sofar.done ++ l) (next_raws path_of sample events old new sofar.same given) ∙ sym (append_assoc sofar.done (column_raw events sample ∷ []) (raws_to_come path_of new))
 
-    now_long : new.met ≡ length (sofar.done ++ column_raw sample ∷ [])
-    now_long = (let long = length-append sofar.done (column_raw sample ∷ []) in let met = sofar.met in let one = given.met in omega (arith, long, met, one))
+    now_long : new.met ≡ length (sofar.done ++ column_raw events sample ∷ [])
+    now_long = (let long = length-append sofar.done (column_raw events sample ∷ []) in let met = sofar.met in let one = given.given.met in omega (arith, long, met, one))
 
-    now_few : length (sofar.done ++ column_raw sample ∷ []) ≤ most_samples
-    now_few = (let long = now_long in let few = given.few in omega (arith, long, few))
+    now_few : length (sofar.done ++ column_raw events sample ∷ []) ≤ most_samples
+    now_few = (let long = now_long in let few = given.given.few in omega (arith, long, few))
 
-    long_ccts : length ccts ≡ harts
+    long_ccts : length ccts ≡ columns
     long_ccts = ap (λ (ts : List (List Counted)). length ts) sofar.counts ∙ many
 
     pub so_far_counts : ccts ≡ distinct (length ccts) sofar.done
     so_far_counts = sofar.counts ∙ ap (λ (n : ℕ). distinct n sofar.done) (sym long_ccts)
 
-    pub so_far_more : (ccts' : List (List Counted)) → (to_come new.machine).final ≡ (to_come old.machine).final → within_frames (distinct (length ccts) (sofar.done ++ column_raw sample ∷ [])) ≡ Ok ccts' → samples_in ccts' ≡ samples_in ccts + 1
-        → SoFar path_of harts start new ccts'
+    pub so_far_more : (ccts' : List (List Counted)) → (to_come new.machine).final ≡ (to_come old.machine).final → within_frames (distinct (length ccts) (sofar.done ++ column_raw events sample ∷ [])) ≡ Ok ccts' → samples_in ccts' ≡ samples_in ccts + 1
+        → SoFar path_of columns events start new ccts'
     so_far_more ccts' last within count =
-        let tables : List (List Counted) = distinct harts (sofar.done ++ column_raw sample ∷ []) in
-        let fine : within_frames tables ≡ Ok ccts' = subst (λ (n : ℕ). within_frames (distinct n (sofar.done ++ column_raw sample ∷ [])) ≡ Ok ccts') long_ccts within in
+        let tables : List (List Counted) = distinct columns (sofar.done ++ column_raw events sample ∷ []) in
+        let fine : within_frames tables ≡ Ok ccts' = subst (λ (n : ℕ). within_frames (distinct n (sofar.done ++ column_raw events sample ∷ [])) ≡ Ok ccts') long_ccts within in
         let is = tested_ok (nat_lt most_frames_in_all (frames_in tables)) TooMany tables ccts' fine in
         record {
-          done = sofar.done ++ column_raw sample ∷ [];
+          done = sofar.done ++ column_raw events sample ∷ [];
           parts = all_parts;
+          same = ap (λ (es : List EventPeriod). length es) given.events ∙ sofar.same;
           met = now_long;
           few = now_few;
           at_end = last ∙ sofar.at_end;
-          done_harts = All-append (λ (s : ColumnRaw). s.column < harts) sofar.done (column_raw sample ∷ []) sofar.done_harts (All-take (λ (s : ColumnRaw). s.column < harts) 1 (column_raw sample ∷ raws_to_come path_of new) (left sample given));
-          left_harts = All-tail (λ (s : ColumnRaw). s.column < harts) (column_raw sample) (raws_to_come path_of new) (left sample given);
+          done_own = All-append (λ (s : ColumnRaw). s.column < columns) sofar.done (column_raw events sample ∷ []) sofar.done_own (All-take (λ (s : ColumnRaw). s.column < columns) 1 (column_raw events sample ∷ raws_to_come path_of new) (left sample given));
+          left_own = All-tail (λ (s : ColumnRaw). s.column < columns) (column_raw events sample) (raws_to_come path_of new) (left sample given);
           counts = sym is.1;
-          count = (let was = sofar.count in let long = length-append sofar.done (column_raw sample ∷ []) in omega (arith, was, long, count));
+          count = (let was = sofar.count in let long = length-append sofar.done (column_raw events sample ∷ []) in omega (arith, was, long, count));
           fits = (let few = at_most most_frames_in_all (frames_in tables) is.0 in let same = ap frames_in is.1 in omega (arith, few, same));
         }
 
     -- too many frames with it
-    pub so_far_frames : (fault : InputFault) → within_frames (distinct (length ccts) (sofar.done ++ column_raw sample ∷ [])) ≡ Err fault
-        → ((more : List ColumnRaw) → All (λ s. s.column < harts) more → frames_in (distinct harts (sofar.done ++ column_raw sample ∷ [])) ≤ frames_in (distinct harts ((sofar.done ++ column_raw sample ∷ []) ++ more)))
-        → few_samples harts (raws_to_come path_of start) ≡ Err fault
+    pub so_far_frames : (fault : InputFault) → within_frames (distinct (length ccts) (sofar.done ++ column_raw events sample ∷ [])) ≡ Err fault
+        → ((more : List ColumnRaw) → All (λ s. s.column < columns) more → frames_in (distinct columns (sofar.done ++ column_raw events sample ∷ [])) ≤ frames_in (distinct columns ((sofar.done ++ column_raw events sample ∷ []) ++ more)))
+        → few_samples columns (raws_to_come path_of start) ≡ Err fault
     so_far_frames fault within grow =
-        let front : List ColumnRaw = sofar.done ++ column_raw sample ∷ [] in
+        let front : List ColumnRaw = sofar.done ++ column_raw events sample ∷ [] in
         let rest : List ColumnRaw = raws_to_come path_of new in
         let more : List ColumnRaw = take (most_samples - length front) rest in
-        let refused : within_frames (distinct harts front) ≡ Err fault = subst (λ (n : ℕ). within_frames (distinct n front) ≡ Err fault) long_ccts within in
-        let is = tested_err (nat_lt most_frames_in_all (frames_in (distinct harts front))) TooMany fault (distinct harts front) refused in
-        let over : most_frames_in_all < frames_in (distinct harts front) = is_above most_frames_in_all (frames_in (distinct harts front)) is.0 in
-        let grows : frames_in (distinct harts front) ≤ frames_in (distinct harts (front ++ more)) = grow more (All-take (λ (s : ColumnRaw). s.column < harts) (most_samples - length front) rest (All-tail (λ (s : ColumnRaw). s.column < harts) (column_raw sample) rest (left sample given))) in
+        let refused : within_frames (distinct columns front) ≡ Err fault = subst (λ (n : ℕ). within_frames (distinct n front) ≡ Err fault) long_ccts within in
+        let is = tested_err (nat_lt most_frames_in_all (frames_in (distinct columns front))) TooMany fault (distinct columns front) refused in
+        let over : most_frames_in_all < frames_in (distinct columns front) = is_above most_frames_in_all (frames_in (distinct columns front)) is.0 in
+        let grows : frames_in (distinct columns front) ≤ frames_in (distinct columns (front ++ more)) = grow more (All-take (λ (s : ColumnRaw). s.column < columns) (most_samples - length front) rest (All-tail (λ (s : ColumnRaw). s.column < columns) (column_raw events sample) rest (left sample given))) in
         let taken : take most_samples (raws_to_come path_of start) ≡ front ++ more = ap (take most_samples) all_parts ∙ take_front most_samples front rest now_few in
-        let many_frames : nat_lt most_frames_in_all (frames_in (distinct harts (take most_samples (raws_to_come path_of start)))) ≡ true =
-        ap (λ (l : List ColumnRaw). nat_lt most_frames_in_all (frames_in (distinct harts l))) taken ∙ lt-ltb most_frames_in_all (frames_in (distinct harts (front ++ more))) (omega (arith, over, grows)) in
-        ap (λ (b : Bool). tested b TooMany (distinct harts (take most_samples (raws_to_come path_of start))) >>= λ _. within_samples (raws_to_come path_of start)) many_frames ∙ ap Err is.1
+        let many_frames : nat_lt most_frames_in_all (frames_in (distinct columns (take most_samples (raws_to_come path_of start)))) ≡ true =
+        ap (λ (l : List ColumnRaw). nat_lt most_frames_in_all (frames_in (distinct columns l))) taken ∙ lt-ltb most_frames_in_all (frames_in (distinct columns (front ++ more))) (omega (arith, over, grows)) in
+        ap (λ (b : Bool). tested b TooMany (distinct columns (take most_samples (raws_to_come path_of start))) >>= λ _. within_samples (raws_to_come path_of start)) many_frames ∙ ap Err is.1
       where
         take_front : (n : ℕ) (xs ys : List ColumnRaw) → length xs ≤ n → take n (xs ++ ys) ≡ xs ++ take (n - length xs) ys
         take_front n [] ys le = ap (λ (k : ℕ). take k ys) (let e : n ≡ n - 0 = omega arith in e)
         take_front zero (x ∷ xs) ys le = absurd (omega arith)
         take_front (suc n) (x ∷ xs) ys le = ap (λ (l : List ColumnRaw). x ∷ l) (take_front n xs ys (omega arith) ∙ ap (λ (k : ℕ). xs ++ take k ys) (let e : n - length xs ≡ suc n - length (x ∷ xs) = omega arith in e))
 
-    pub so_far_refused : (fail : Fail InputFault) → FailsBy fail (within_frames (distinct (length ccts) (sofar.done ++ column_raw sample ∷ [])))
-        → ((more : List ColumnRaw) → All (λ s. s.column < harts) more → frames_in (distinct harts (sofar.done ++ column_raw sample ∷ [])) ≤ frames_in (distinct harts ((sofar.done ++ column_raw sample ∷ []) ++ more)))
-        → FailsBy fail (few_samples harts (raws_to_come path_of start))
+    pub so_far_refused : (fail : Fail InputFault) → FailsBy fail (within_frames (distinct (length ccts) (sofar.done ++ column_raw events sample ∷ [])))
+        → ((more : List ColumnRaw) → All (λ s. s.column < columns) more → frames_in (distinct columns (sofar.done ++ column_raw events sample ∷ [])) ≤ frames_in (distinct columns ((sofar.done ++ column_raw events sample ∷ []) ++ more)))
+        → FailsBy fail (few_samples columns (raws_to_come path_of start))
     so_far_refused (fails.Fault fault) within grow = so_far_frames fault within grow
     so_far_refused (fails.Memory memory) within grow = tt
 
   -- the frames of what was counted fit
-  fit : (rest : List ColumnRaw) → take most_samples (raws_to_come path_of start) ≡ sofar.done → few_samples harts (raws_to_come path_of start) ≡ within_samples (raws_to_come path_of start)
+  fit : (rest : List ColumnRaw) → take most_samples (raws_to_come path_of start) ≡ sofar.done → few_samples columns (raws_to_come path_of start) ≡ within_samples (raws_to_come path_of start)
   fit rest front =
-      let few : frames_in (distinct harts (take most_samples (raws_to_come path_of start))) ≤ most_frames_in_all =
-      (let same = ap (λ (l : List ColumnRaw). frames_in (distinct harts l)) front in let are = ap frames_in sofar.counts in let fits = sofar.fits in omega (arith, same, are, fits)) in
-      ap (λ (b : Bool). tested b TooMany (distinct harts (take most_samples (raws_to_come path_of start))) >>= λ _. within_samples (raws_to_come path_of start)) (le-ltb most_frames_in_all (frames_in (distinct harts (take most_samples (raws_to_come path_of start)))) few)
+      let few : frames_in (distinct columns (take most_samples (raws_to_come path_of start))) ≤ most_frames_in_all =
+      (let same = ap (λ (l : List ColumnRaw). frames_in (distinct columns l)) front in let are = ap frames_in sofar.counts in let fits = sofar.fits in omega (arith, same, are, fits)) in
+      ap (λ (b : Bool). tested b TooMany (distinct columns (take most_samples (raws_to_come path_of start))) >>= λ _. within_samples (raws_to_come path_of start)) (le-ltb most_frames_in_all (frames_in (distinct columns (take most_samples (raws_to_come path_of start)))) few)
 
   -- none is left
-  pub so_far_over : IsOver path_of old new → (to_come new.machine).final ≡ (to_come old.machine).final → AllCounted path_of harts ccts start new
+  pub so_far_over : IsOver path_of old new → (to_come new.machine).final ≡ (to_come old.machine).final → AllCounted path_of columns ccts start new
   so_far_over over last =
-      let all : raws_to_come path_of start ≡ sofar.done = sofar.parts ∙ ap (λ (l : List Sample). sofar.done ++ map column_raw l) over.none ∙ append-nil sofar.done in
+      let all : raws_to_come path_of start ≡ sofar.done = sofar.parts ∙ ap (λ (l : List Sample). sofar.done ++ map (column_raw (length old.events)) l) over.none ∙ append-nil sofar.done in
       let front : take most_samples (raws_to_come path_of start) ≡ sofar.done = ap (take most_samples) all ∙ take_all most_samples sofar.done sofar.few in
       let long : length (raws_to_come path_of start) ≤ most_samples = (let same = ap (λ (l : List ColumnRaw). length l) all in let few = sofar.few in omega (arith, same, few)) in
       record {
         few = fit [] front ∙ ap (λ (b : Bool). tested b TooManySamples (raws_to_come path_of start)) (le-ltb most_samples (length (raws_to_come path_of start)) long);
-        counts = sofar.counts ∙ ap (distinct harts) (sym all);
+        counts = sofar.counts ∙ ap (distinct columns) (sym all);
         all = sofar.count ∙ ap (λ (l : List ColumnRaw). length l) (sym all);
-        of_harts = subst (All (λ (s : ColumnRaw). s.column < harts)) (sym all) sofar.done_harts;
+        own = subst (All (λ (s : ColumnRaw). s.column < columns)) (sym all) sofar.done_own;
         ended = sym (ap (λ (r : Run). r.final) over.ended) ∙ last ∙ sofar.at_end;
       }
 
   -- one more than there may be
-  pub so_far_many : (fault : InputFault) → Exceeds path_of fault old new → few_samples harts (raws_to_come path_of start) ≡ Err fault
+  pub so_far_many : (fault : InputFault) → Exceeds path_of fault old new → few_samples columns (raws_to_come path_of start) ≡ Err fault
   so_far_many fault exceeds =
       let rest : List ColumnRaw = raws_to_come path_of old in
       let long : most_samples ≤ length sofar.done = (let met = sofar.met in let full = exceeds.many.full in omega (arith, met, full)) in
@@ -223,14 +230,14 @@ module _ (path_of : Paths) (harts : ℕ) (start old new : Sampling) (ccts : List
       fit rest front ∙ ap (λ (b : Bool). tested b TooManySamples (raws_to_come path_of start)) (lt-ltb most_samples (length (raws_to_come path_of start)) more) ∙ ap Err (sym exceeds.is)
     where
       raws_long : (s : Sampling) → length (raws_to_come path_of s) ≡ length (samples_to_come path_of s)
-      raws_long s = length-map (samples_to_come path_of s) column_raw
+      raws_long s = length-map (samples_to_come path_of s) (column_raw (length s.events))
 
-  pub so_far_stops : (fail : Fail InputFault) → Stops path_of fail old new → FailsBy fail (few_samples harts (raws_to_come path_of start))
+  pub so_far_stops : (fail : Fail InputFault) → Stops path_of fail old new → FailsBy fail (few_samples columns (raws_to_come path_of start))
   so_far_stops (fails.Fault fault) stops = so_far_many fault stops
   so_far_stops (fails.Memory memory) stops = tt
 
 -- what the answer says
-pub given_by : (path_of : Paths) (answer : Option Sample) (sample : Sample) (old new : Sampling) → answer ≡ Some sample → GivesNext path_of (Ok answer) old new → Given path_of sample old new
+pub given_by : (path_of : Paths) (answer : Option Sample) (sample : Sample) (old new : Sampling) → answer ≡ Some sample → GivesNext path_of (Ok answer) old new → GivesOne path_of sample old new
 given_by path_of answer sample old new is goes = subst (λ (o : Option Sample). GivesNext path_of (Ok o) old new) is goes
 
 pub over_by : (path_of : Paths) (answer : Option Sample) (old new : Sampling) → answer ≡ None → GivesNext path_of (Ok answer) old new → IsOver path_of old new

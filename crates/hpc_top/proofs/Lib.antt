@@ -6,6 +6,10 @@ pub mod Counted
 pub mod Products
 pub mod Collecting
 pub mod Contents
+pub mod FewEvents
+pub mod EventTables
+pub mod EventLines
+pub mod Alone
 pub mod Drilling
 pub mod Addresses
 pub mod EachOf

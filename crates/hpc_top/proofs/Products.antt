@@ -1,12 +1,14 @@
 -- What is made of a run's samples that were counted, planned and merged.
-use Rattle.std.proofs.Common.{◌≡◌, ℕ, ◌<◌, nat_lt, Bool, true, false, if◌then◌else◌, IsTrue, List, ◌++◌, length, All, Result, Ok, Err, refl, sym, ap, subst, ◌∙◌, arith}
+use Rattle.std.proofs.Common.{◌≡◌, ℕ, ◌<◌, nat_lt, Bool, true, false, if◌then◌else◌, IsTrue, List, [], ◌∷◌, ◌++◌, length, All, Result, Ok, Err, refl, sym, ap, subst, ◌∙◌, arith}
 use Rattle.prof_bytes.specs.declared.fail.Fail.{Fail}
 use Rattle.prof_bytes.specs.declared.fail.Fail.TheVariants as fails
 use Rattle.prof_bytes.specs.Outcome.{◌>>=◌, FailsBy}
+use Rattle.scope_types.specs.declared.event.EventPeriod.{EventPeriod}
 use Rattle.scope_types.specs.declared.frame.Counted.{Counted}
 use Rattle.scope_types.specs.Alike.{Alike}
 use Rattle.scope_types.specs.declared.scope.Scope.{Scope}
 use Rattle.scope_types.specs.CallPaths.{ColumnPath}
+use Rattle.scope_types.specs.Columns.{paths_of_event}
 use Rattle.scope_types.specs.Raw.{Raw}
 use Rattle.scope_types.specs.Expansion.{call_path}
 use Rattle.scope_find.specs.Found.{ProgramScopes, found_at, naming_of}
@@ -19,46 +21,60 @@ use Rattle.stripe_table.specs.Limits.{Chunks}
 use Rattle.merge_crew.specs.declared.merge.Crew.{Crew}
 use Rattle.merge_crew.specs.Merged.{IsOfPlan, IsWhole, NamesEach}
 use Rattle.tree_types.specs.Naming.{Naming}
-use Rattle.tree_types.specs.Database.{content_of}
-use Rattle.tree_types.specs.OfContent.{IsProfile, content_table}
+use Rattle.tree_types.specs.declared.content.EventContent.{EventContent}
+use Rattle.tree_types.specs.Database.{event_content_of, period_at}
+use Rattle.tree_types.specs.OfContent.{IsEventProfile, content_of_event, content_table}
 use Rattle.tree_types.specs.TopDown.{top_down}
-use Rattle.prof_db.specs.Spelling.{database_spelling}
+use Rattle.prof_db.specs.Spelling.{events_spelling}
 use Rattle.command_line.specs.declared.status.InputFault.{InputFault}
 use Rattle.command_line.specs.declared.status.InputFault.TheVariants.{TooManyScopes}
 use Rattle.hpc_top.specs.declared.counting.CountedRun.{CountedRun}
 use Rattle.hpc_top.specs.declared.merged.Merged.{Merged}
 use Rattle.hpc_top.specs.declared.profiling.ProfiledRun.{ProfiledRun}
 use Rattle.hpc_top.specs.declared.status.Made.{Made}
-use Rattle.hpc_top.specs.Attribution.{Attributed, attributed, attribution_of, call_paths_of}
+use Rattle.hpc_top.specs.Attribution.{Attributed, attributed, attribution_of, call_paths_of, event_content}
 use Rattle.hpc_top.specs.Made.{product_in}
 use Rattle.hpc_top.specs.Measured.{Measured, lines_of}
 use Rattle.hpc_top.specs.Merged.{IsMadeOf, MakesBy, Merging, sample_plan}
 use Rattle.hpc_top.specs.Product.{Product}
 use Rattle.hpc_top.specs.commands.Profile.{Profiled, product_of, profile_of, profiled, profiled_of}
 use Rattle.hpc_top.specs.private.Counting.{IsCount}
-use Rattle.hpc_top.specs.private.Merging.{IsMergeOf, Merges, few_planned}
+use Rattle.hpc_top.specs.Samples.{run_columns}
+use Rattle.hpc_top.specs.private.EventTexts.{lines_of_events, tables_in}
+use Rattle.hpc_top.specs.private.Merging.{HasTables, IsMergeOf, Merges, few_planned}
 use Rattle.hpc_top.specs.private.Profiling.{IsMadeBy, IsProfileOf, Profiles}
+use Rattle.hpc_top.proofs.Contents.{period_there, there_within}
+use Rattle.hpc_top.proofs.EventTables.{tables_are}
 use Rattle.hpc_top.proofs.Faults.{fails_next}
 
 -- ---- where crews merge all
 
-pub whole_product : (merging : Merging) (period : ℕ) (made : Made) (elf input schedule : List ℕ) → IsTrue merging.whole → MakesBy merging period (Ok made) (profiled_of elf input schedule period) → profile_of elf input schedule period ≡ Ok (product_in made)
+pub whole_product : (merging : Merging) (events : List EventPeriod) (made : Made) (elf input schedule : List ℕ) → IsTrue merging.whole → MakesBy merging (Ok made) (profiled_of elf input schedule events) → profile_of elf input schedule events ≡ Ok (product_in made)
 unfolding profile_of
-whole_product merging period made elf input schedule whole (p, is, made_of) =
-    ap (λ (r : Result Profiled InputFault). r >>= λ p. Ok (product_of period p)) is ∙ ap Ok (sym (made_of.whole whole))
+whole_product merging events made elf input schedule whole (p, is, made_of) =
+    ap (λ (r : Result Profiled InputFault). r >>= λ p. Ok (product_of p)) is ∙ ap Ok (sym (made_of.whole whole))
 
-pub refused_product : (elf input schedule : List ℕ) (period : ℕ) (fail : Fail InputFault) → FailsBy fail (profiled_of elf input schedule period) → FailsBy fail (profile_of elf input schedule period)
+pub refused_product : (elf input schedule : List ℕ) (events : List EventPeriod) (fail : Fail InputFault) → FailsBy fail (profiled_of elf input schedule events) → FailsBy fail (profile_of elf input schedule events)
 unfolding profile_of
-refused_product elf input schedule period fail refused = fails_next (λ p. Ok (product_of period p)) fail (profiled_of elf input schedule period) refused
+refused_product elf input schedule events fail refused = fails_next (λ p. Ok (product_of p)) fail (profiled_of elf input schedule events) refused
 
 -- ---- what is merged of counted samples
 
 -- what the tree's laws say of alike paths
 abbrev pub ContentsAlike : Type 0
-ContentsAlike = (period harts : ℕ) (naming : Naming) (ps qs : List ColumnPath) → Alike ps qs → content_of period harts naming ps ≡ content_of period harts naming qs
+ContentsAlike = (events : List EventPeriod) (runs : List ℕ) (naming : Naming) (ps qs : List ColumnPath) → Alike ps qs → event_content_of events runs naming ps ≡ event_content_of events runs naming qs
 
 abbrev pub TablesAlike : Type 0
 TablesAlike = (period harts : ℕ) (naming : Naming) (ps qs : List ColumnPath) → Alike ps qs → top_down period harts naming ps ≡ top_down period harts naming qs
+
+abbrev pub EventsAlike : Type 0
+EventsAlike = (events place : ℕ) (ps qs : List ColumnPath) → Alike ps qs → Alike (paths_of_event events place ps) (paths_of_event events place qs)
+
+-- the tables of alike paths
+pub same_tables : TablesAlike → EventsAlike → (a : Attributed) (ps qs : List ColumnPath) → Alike ps qs → (c : EventContent) → HasTables c a ps → HasTables c a qs
+same_tables tables each a ps qs alike c has place event is =
+    has place event is
+    ∙ tables event.period a.harts (naming_of a.scopes) (paths_of_event (length a.events) place ps) (paths_of_event (length a.events) place qs) (each (length a.events) place ps qs alike)
 
 -- what the stripes' law says
 abbrev pub SamplesHeld : Type 0
@@ -70,9 +86,9 @@ names_all : (crew : Crew) (plan : Chunks) → crew.stripes.view.plan ≡ plan �
 names_all crew plan is each c s chunk stripe = (let one = each s c stripe (subst (λ (p : Chunks). c < length p) is chunk) in omega (arith, one))
 
 -- samples, or too many scopes
-abbrev pub scopes_decide : ProgramScopes → ℕ → List ColumnRaw → Bool → Result Attributed InputFault
-scopes_decide scopes harts samples many =
-    (if many then Err TooManyScopes else Ok samples) >>= λ samples. Ok (record { scopes = scopes; harts = harts; samples = samples })
+abbrev pub scopes_decide : ProgramScopes → List EventPeriod → ℕ → List ColumnRaw → Bool → Result Attributed InputFault
+scopes_decide scopes events harts samples many =
+    (if many then Err TooManyScopes else Ok samples) >>= λ samples. Ok (record { scopes = scopes; events = events; harts = harts; samples = samples })
 
 -- a plan, or too many scopes
 planned : (ccts : List (List Counted)) (many : Bool) (plan : Planned) → (if many then Err TooManyScopes else Ok (plan_of ccts)) ≡ Ok plan → (many ≡ false) × (plan ≡ plan_of ccts)
@@ -84,111 +100,153 @@ unplanned ccts true fault e = (refl, (let same : fault ≡ TooManyScopes = cc in
 unplanned ccts false fault e = absurd cc
 
 -- what is attributed
-pub attributed_as : (scopes : ProgramScopes) (harts : ℕ) (samples : List ColumnRaw) (a : Attributed) → attributed scopes harts samples ≡ Ok a → a ≡ record { scopes = scopes; harts = harts; samples = samples }
-attributed_as scopes harts samples a is = tested (nat_lt most_scopes_in_all (scopes_in (call_path (found_at scopes)) (distinct harts samples))) is
+pub attributed_as : (scopes : ProgramScopes) (events : List EventPeriod) (harts : ℕ) (samples : List ColumnRaw) (a : Attributed) → attributed scopes events harts samples ≡ Ok a → a ≡ record { scopes = scopes; events = events; harts = harts; samples = samples }
+attributed_as scopes events harts samples a is = tested (nat_lt most_scopes_in_all (scopes_in (call_path (found_at scopes)) (distinct (run_columns events harts) samples))) is
   where
-    tested : (many : Bool) → scopes_decide scopes harts samples many ≡ Ok a → a ≡ record { scopes = scopes; harts = harts; samples = samples }
+    tested : (many : Bool) → scopes_decide scopes events harts samples many ≡ Ok a → a ≡ record { scopes = scopes; events = events; harts = harts; samples = samples }
     tested true e = absurd cc
-    tested false e = (let same : a ≡ record { scopes = scopes; harts = harts; samples = samples } = cc in same)
+    tested false e = (let same : a ≡ record { scopes = scopes; events = events; harts = harts; samples = samples } = cc in same)
 
-module _ (scopes : ProgramScopes) (harts : ℕ) (ccts : List (List Counted)) (samples : List ColumnRaw) (counts : ccts ≡ distinct harts samples) where
+module _ (scopes : ProgramScopes) (events : List EventPeriod) (harts : ℕ) (ccts : List (List Counted)) (samples : List ColumnRaw) (counts : ccts ≡ distinct (run_columns events harts) samples) where
   abbrev expand : Raw → List Scope
   expand = call_path (found_at scopes)
 
-  by_scopes : (many : Bool) → nat_lt most_scopes_in_all (scopes_in expand ccts) ≡ many → attributed scopes harts samples ≡ scopes_decide scopes harts samples many
-  by_scopes many is = ap (scopes_decide scopes harts samples) (ap (λ (ts : List (List Counted)). nat_lt most_scopes_in_all (scopes_in expand ts)) (sym counts) ∙ is)
+  by_scopes : (many : Bool) → nat_lt most_scopes_in_all (scopes_in expand ccts) ≡ many → attributed scopes events harts samples ≡ scopes_decide scopes events harts samples many
+  by_scopes many is = ap (scopes_decide scopes events harts samples) (ap (λ (ts : List (List Counted)). nat_lt most_scopes_in_all (scopes_in expand ts)) (sym counts) ∙ is)
 
-  pub plan_harts : (plan : Planned) → few_planned expand ccts ≡ Ok plan → plan.columns ≡ length ccts
-  plan_harts plan planned_by = ap (λ (p : Planned). p.columns) (planned ccts (nat_lt most_scopes_in_all (scopes_in expand ccts)) plan planned_by).1
-
-  refused_plan : (fail : Fail InputFault) → FailsBy fail (few_planned expand ccts) → FailsBy fail (attributed scopes harts samples)
+  refused_plan : (fail : Fail InputFault) → FailsBy fail (few_planned expand ccts) → FailsBy fail (attributed scopes events harts samples)
   refused_plan (fails.Fault fault) refused =
       let is = unplanned ccts (nat_lt most_scopes_in_all (scopes_in expand ccts)) fault refused in
       by_scopes true is.0 ∙ ap Err (sym is.1)
   refused_plan (fails.Memory memory) refused = tt
 
--- where what expands raw paths is over the same program
-pub refused_of : (harts : ℕ) (ccts : List (List Counted)) (samples : List ColumnRaw) → ccts ≡ distinct harts samples → (expander finder : ProgramScopes) → expander ≡ finder → (fail : Fail InputFault)
-    → FailsBy fail (few_planned (call_path (found_at expander)) ccts) → FailsBy fail (attributed finder harts samples)
-refused_of harts ccts samples counts expander finder same fail refused =
-    subst (λ (q : ProgramScopes). FailsBy fail (attributed q harts samples)) same (refused_plan expander harts ccts samples counts fail refused)
+-- the plan has as many columns as there are tables
+pub plan_columns : (expand : Raw → List Scope) (ccts : List (List Counted)) (plan : Planned) → few_planned expand ccts ≡ Ok plan → plan.columns ≡ length ccts
+plan_columns expand ccts plan planned_by = ap (λ (p : Planned). p.columns) (planned ccts (nat_lt most_scopes_in_all (scopes_in expand ccts)) plan planned_by).1
 
-pub merge_is : (by : Merging) (period : ℕ) (scopes : ProgramScopes) (harts : ℕ) (ccts : List (List Counted)) (samples : List ColumnRaw) → ccts ≡ distinct harts samples → SamplesHeld → All (λ s. s.column < harts) samples → (plan : Planned) (m : Merged)
+-- where what expands raw paths is over the same program
+pub refused_of : (events : List EventPeriod) (harts : ℕ) (ccts : List (List Counted)) (samples : List ColumnRaw) → ccts ≡ distinct (run_columns events harts) samples → (expander finder : ProgramScopes) → expander ≡ finder → (fail : Fail InputFault)
+    → FailsBy fail (few_planned (call_path (found_at expander)) ccts) → FailsBy fail (attributed finder events harts samples)
+refused_of events harts ccts samples counts expander finder same fail refused =
+    subst (λ (q : ProgramScopes). FailsBy fail (attributed q events harts samples)) same (refused_plan expander events harts ccts samples counts fail refused)
+
+-- the samples of a merge
+abbrev samples_as : ProgramScopes → List EventPeriod → ℕ → List ColumnRaw → Attributed
+samples_as scopes events harts samples = record { scopes = scopes; events = events; harts = harts; samples = samples }
+
+-- the tables of all places are those of all events
+pub tables_of : (scopes : ProgramScopes) (events : List EventPeriod) (harts : ℕ) (samples : List ColumnRaw) (ps : List ColumnPath) (c : EventContent)
+    → ((place : ℕ) → place < length events → content_table (content_of_event c place) ≡ top_down (period_at events place) harts (naming_of scopes) (paths_of_event (length events) place ps)) → HasTables c (samples_as scopes events harts samples) ps
+tables_of scopes events harts samples ps c each place event is =
+    each place (there_within events place event is)
+    ∙ ap (λ (period : ℕ). top_down period harts (naming_of scopes) (paths_of_event (length events) place ps)) (period_there events place event is)
+
+pub merge_is : (by : Merging) (scopes : ProgramScopes) (events : List EventPeriod) (harts : ℕ) (ccts : List (List Counted)) (samples : List ColumnRaw) → ccts ≡ distinct (run_columns events harts) samples → SamplesHeld → All (λ s. s.column < run_columns events harts) samples → (plan : Planned) (m : Merged)
     → few_planned (call_path (found_at scopes)) ccts ≡ Ok plan → by.gives m.crew → IsOfPlan (expanded plan (call_path (found_at scopes))) m.crew → (IsTrue by.whole → IsWhole (expanded plan (call_path (found_at scopes))) by.workers m.crew)
-    → m.content ≡ content_of period harts (naming_of scopes) (named_paths m.crew.stripes) → content_table m.content ≡ top_down period harts (naming_of scopes) (named_paths m.crew.stripes)
-    → Merges by period (Ok m) (attributed scopes harts samples)
-merge_is by period scopes harts ccts samples counts held own plan m planned_by gives of whole content_is table =
+    → m.content ≡ event_content_of events (harts ∷ []) (naming_of scopes) (named_paths m.crew.stripes) → HasTables m.content (samples_as scopes events harts samples) (named_paths m.crew.stripes)
+    → Merges by (Ok m) (attributed scopes events harts samples)
+merge_is by scopes events harts ccts samples counts held own plan m planned_by gives of whole content_is tables =
     let expand : Raw → List Scope = call_path (found_at scopes) in
     let is = planned ccts (nat_lt most_scopes_in_all (scopes_in expand ccts)) plan planned_by in
-    let a : Attributed = record { scopes = scopes; harts = harts; samples = samples } in
+    let a : Attributed = samples_as scopes events harts samples in
     let is_plan : expanded plan expand ≡ sample_plan a = ap (λ (p : Planned). expanded p expand) is.1 ∙ ap (λ (ts : List (List Counted)). expanded (plan_of ts) expand) counts in
     let plan_is : m.crew.stripes.view.plan ≡ sample_plan a = of.plan ∙ is_plan in (
       a,
-      by_scopes scopes harts ccts samples counts false is.0,
+      by_scopes scopes events harts ccts samples counts false is.0,
       record {
         gives = gives;
         plan = subst (λ (chunks : Chunks). IsOfPlan chunks m.crew) is_plan of;
         content = content_is;
-        table = table;
+        tables = tables;
         crew = λ all_merged. subst (λ (chunks : Chunks). IsWhole chunks by.workers m.crew) is_plan (whole all_merged);
         paths = λ all_merged.
             let fit : AllFit m.crew.stripes.view.plan m.crew.stripes.stripes = subst (λ (chunks : Chunks). AllFit chunks m.crew.stripes.stripes) (sym of.plan) of.fit in
-            held m.crew.stripes harts samples expand fit (names_all m.crew (expanded plan expand) of.plan (whole all_merged).names) plan_is own;
+            held m.crew.stripes (run_columns events harts) samples expand fit (names_all m.crew (expanded plan expand) of.plan (whole all_merged).names) plan_is own;
       },
     )
 
 -- ---- a run's profile
 
-module _ (scopes : ProgramScopes) (m : Measured) (run : CountedRun) (count : IsCount m run) where
-  pub refused_merge : (fail : Fail InputFault) → FailsBy fail (attributed scopes (length run.ccts) m.samples) → FailsBy fail (profiled scopes m)
-  refused_merge fail refused =
-      fails_next (λ a. Ok (record { measured = m; attributed = a })) fail (attributed scopes m.harts m.samples)
-      (subst (λ (n : ℕ). FailsBy fail (attributed scopes n m.samples)) count.harts refused)
+module _ (scopes : ProgramScopes) (events : List EventPeriod) (m : Measured) (run : CountedRun) (count : IsCount events m run) (harts : ℕ) (are : harts ≡ run.harts) where
+  -- what is attributed of the run, by the events and harts that are known of it
+  own_attributed : attributed scopes events harts m.samples ≡ attributed scopes m.events m.harts m.samples
+  own_attributed = (λ i. attributed scopes (sym count.same i) ((are ∙ count.harts) i) m.samples)
 
-  pub profiled_is : (by : Merging) (period : ℕ) (r : Merged) → Merges by period (Ok r) (attributed scopes (length run.ccts) m.samples) → IsProfile r.content → Profiles by period (Ok (record { run = run; merged = r })) (profiled scopes m)
-  profiled_is by period r (a, is, merged) profile = (
-    record { measured = m; attributed = a },
-    ap (λ (r : Result Attributed InputFault). r >>= λ a. Ok (record { measured = m; attributed = a })) (subst (λ (n : ℕ). attributed scopes n m.samples ≡ Ok a) count.harts is),
-    record { count = count; merged = merged; profile = profile },
-  )
+  pub refused_merge : (fail : Fail InputFault) → FailsBy fail (attributed scopes events harts m.samples) → FailsBy fail (profiled scopes m)
+  refused_merge fail refused =
+      fails_next (λ a. Ok (record { measured = m; attributed = a })) fail (attributed scopes m.events m.harts m.samples)
+      (subst (FailsBy fail) own_attributed refused)
+
+  pub profiled_is : (by : Merging) (r : Merged) → Merges by (Ok r) (attributed scopes events harts m.samples) → IsEventProfile r.content → length r.content.runs ≡ 1 → r.content.events ≡ events → Profiles by events (Ok (record { run = run; merged = r })) (profiled scopes m)
+  profiled_is by r (a, is, merged) profile run_is events_is =
+      let here : attributed scopes m.events m.harts m.samples ≡ Ok a = sym own_attributed ∙ is in
+      let same : a ≡ samples_as scopes m.events m.harts m.samples = attributed_as scopes m.events m.harts m.samples a here in (
+        record { measured = m; attributed = a },
+        ap (λ (r : Result Attributed InputFault). r >>= λ a. Ok (record { measured = m; attributed = a })) here,
+        record {
+          count = count;
+          merged = merged;
+          profile = profile;
+          run = run_is;
+          own_events = events_is;
+          same_events = ap (λ (q : Attributed). q.events) same;
+          same_samples = ap (λ (q : Attributed). q.samples) same;
+        },
+      )
 
 -- ---- what is made of it
 
-module _ (by : Merging) (period : ℕ) (contents : ContentsAlike) (tables : TablesAlike) where
-  pub all_content : (a : Attributed) (m : Merged) → IsMergeOf by period a m → IsTrue by.whole → m.content ≡ content_of period a.harts (naming_of a.scopes) (call_paths_of a)
-  all_content a m is all_merged = is.content ∙ contents period a.harts (naming_of a.scopes) (named_paths m.crew.stripes) (call_paths_of a) (is.paths all_merged)
+-- a text before which there is nothing
+pub text_with : (c : EventContent) (text before : List ℕ) (lines wanted : List (List ℕ)) → text ≡ before ++ tables_in lines c → before ≡ [] → lines ≡ wanted → text ≡ tables_in wanted c
+text_with c text before lines wanted is none same = is ∙ (λ i. none i ++ tables_in (same i) c)
 
-  all_table : (a : Attributed) (m : Merged) → IsMergeOf by period a m → IsTrue by.whole → content_table m.content ≡ top_down period a.harts (naming_of a.scopes) (call_paths_of a)
-  all_table a m is all_merged = is.table ∙ tables period a.harts (naming_of a.scopes) (named_paths m.crew.stripes) (call_paths_of a) (is.paths all_merged)
+-- database and report of what was merged
+pub made_by : (m : Measured) (merged : Merged) (made : Made) → made.crew ≡ merged.crew → made.database ≡ events_spelling merged.content → {before : List ℕ} {lines : List (List ℕ)} → made.report ≡ before ++ tables_in lines merged.content → before ≡ lines_of m → lines ≡ lines_of_events m.events m.samples → IsMadeBy m merged made
+made_by m merged made crew database report text lines = record {
+  database = database;
+  report = report ∙ (λ i. text i ++ tables_in (lines i) merged.content);
+  crew = crew;
+}
 
-  -- database and table alone
-  pub attribution_is : (wanted : Result Attributed InputFault) (m : Merged) (made : Product) → Merges by period (Ok m) wanted → IsTrue by.whole → made.stored ≡ database_spelling m.content → made.text ≡ content_table m.content
-      → (wanted >>= λ a. Ok (attribution_of period a)) ≡ Ok made
-  attribution_is wanted m made (a, is, merged) all_merged stored text =
-      let s = sym (stored ∙ ap database_spelling (all_content a m merged all_merged)) in
-      let t = sym (text ∙ all_table a m merged all_merged) in
-      let product : attribution_of period a ≡ made = (λ i. record { stored = s i; text = t i }) in
-      ap (λ (r : Result Attributed InputFault). r >>= λ a. Ok (attribution_of period a)) is ∙ ap Ok product
+module _ (by : Merging) (contents : ContentsAlike) (tables : TablesAlike) (each : EventsAlike) where
+  pub all_content : (a : Attributed) (m : Merged) → IsMergeOf by a m → IsTrue by.whole → m.content ≡ event_content a (call_paths_of a)
+  all_content a m is all_merged = is.content ∙ contents a.events (a.harts ∷ []) (naming_of a.scopes) (named_paths m.crew.stripes) (call_paths_of a) (is.paths all_merged)
 
-  -- and the lines on the run before the table
-  made_is : (p : Profiled) (r : ProfiledRun) (made : Made) → IsProfileOf by period p r → IsMadeBy period p.measured r.merged made → IsMadeOf by period p made
-  made_is p r made is parts =
+  all_tables : (a : Attributed) (m : Merged) → IsMergeOf by a m → IsTrue by.whole → HasTables m.content a (call_paths_of a)
+  all_tables a m is all_merged = same_tables tables each a (named_paths m.crew.stripes) (call_paths_of a) (is.paths all_merged) m.content is.tables
+
+  -- database and tables alone
+  pub attribution_is : (wanted : Result Attributed InputFault) (events : List EventPeriod) (samples : List ColumnRaw) (m : Merged) (made : Product) → Merges by (Ok m) wanted → ((a : Attributed) → wanted ≡ Ok a → (a.events ≡ events) × (a.samples ≡ samples)) → IsTrue by.whole
+      → made.stored ≡ events_spelling m.content → made.text ≡ tables_in (lines_of_events events samples) m.content → (wanted >>= λ a. Ok (attribution_of a)) ≡ Ok made
+  attribution_is wanted events samples m made (a, is, merged) own all_merged stored text =
+      let same = own a is in
+      let lines : lines_of_events events samples ≡ lines_of_events a.events a.samples = (λ i. lines_of_events (sym same.0 i) (sym same.1 i)) in
+      let s = sym (stored ∙ ap events_spelling (all_content a m merged all_merged)) in
+      let t = sym (text ∙ ap (λ (ls : List (List ℕ)). tables_in ls m.content) lines ∙ tables_are a (call_paths_of a) m.content (all_tables a m merged all_merged)) in
+      let product : attribution_of a ≡ made = (λ i. record { stored = s i; text = t i }) in
+      ap (λ (r : Result Attributed InputFault). r >>= λ a. Ok (attribution_of a)) is ∙ ap Ok product
+
+  -- and the lines on the run before the tables
+  made_is : (events : List EventPeriod) (p : Profiled) (r : ProfiledRun) (made : Made) → IsProfileOf by events p r → IsMadeBy p.measured r.merged made → IsMadeOf by p made
+  made_is events p r made is parts =
       let a : Attributed = p.attributed in
       let m : Merged = record { content = r.merged.content; crew = made.crew } in
-      let here : IsMergeOf by period a m = subst (λ (c : Crew). IsMergeOf by period a (record { content = r.merged.content; crew = c })) (sym parts.crew) is.merged in
+      let here : IsMergeOf by a m = subst (λ (c : Crew). IsMergeOf by a (record { content = r.merged.content; crew = c })) (sym parts.crew) is.merged in
+      let lines : lines_of_events p.measured.events p.measured.samples ≡ lines_of_events a.events a.samples = (λ i. lines_of_events (sym is.same_events i) (sym is.same_samples i)) in
+      let report : made.report ≡ lines_of p.measured ++ tables_in (lines_of_events a.events a.samples) m.content = parts.report ∙ ap (λ (ls : List (List ℕ)). lines_of p.measured ++ tables_in ls m.content) lines in
       record {
         gives = here.gives;
         plan = here.plan;
         product =
-            let s = parts.database ∙ ap database_spelling here.content in
-            let t = parts.report ∙ ap (λ (table : List ℕ). lines_of period p.measured ++ table) here.table in
+            let s = parts.database ∙ ap events_spelling here.content in
+            let t = report ∙ ap (λ (text : List ℕ). lines_of p.measured ++ text) (tables_are a (named_paths made.crew.stripes) m.content here.tables) in
             λ i. record { stored = s i; text = t i };
         crew = here.crew;
         whole = λ all_merged.
-            let s = parts.database ∙ ap database_spelling (all_content a m here all_merged) in
-            let t = parts.report ∙ ap (λ (table : List ℕ). lines_of period p.measured ++ table) (all_table a m here all_merged) in
+            let s = parts.database ∙ ap events_spelling (all_content a m here all_merged) in
+            let t = report ∙ ap (λ (text : List ℕ). lines_of p.measured ++ text) (tables_are a (call_paths_of a) m.content (all_tables a m here all_merged)) in
             λ i. record { stored = s i; text = t i };
       }
 
-  pub makes : (wanted : Result Profiled InputFault) (r : ProfiledRun) (made : Made) → Profiles by period (Ok r) wanted → ((m : Measured) → IsCount m r.run → IsMadeBy period m r.merged made) → MakesBy by period (Ok made) wanted
-  makes wanted r made (p, is, profile) parts = (p, is, made_is p r made profile (parts p.measured profile.count))
+  pub makes : (events : List EventPeriod) (wanted : Result Profiled InputFault) (r : ProfiledRun) (made : Made) → Profiles by events (Ok r) wanted → ((m : Measured) → IsCount events m r.run → IsMadeBy m r.merged made) → MakesBy by (Ok made) wanted
+  makes events wanted r made (p, is, profile) parts = (p, is, made_is events p r made profile (parts p.measured profile.count))

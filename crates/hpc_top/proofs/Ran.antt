@@ -15,7 +15,7 @@ use Rattle.dwarf_line.specs.declared.fault.LineFault.{LineFault}
 use Rattle.dwarf_line.specs.Lines.{lines_at}
 use Rattle.measure_file.specs.declared.fault.MeasureFault.{MeasureFault}
 use Rattle.measure_file.specs.declared.head.MeasureHead.{MeasureHead}
-use Rattle.measure_file.specs.Measurable.{AreMeasured, AreSampled, IsHead, IsMeasurable}
+use Rattle.measure_file.specs.Measurable.{AreMeasured, AreSampled, HasWord, IsHead, IsMeasurable}
 use Rattle.measure_file.specs.Reading.{measurement_in}
 use Rattle.measure_file.specs.Spelling.{measurement_spelling}
 use Rattle.rv_run.specs.Run.{Run, run_of}
@@ -23,10 +23,13 @@ use Rattle.rv_run.specs.Schedule.{Scheduled}
 use Rattle.rv_run.specs.State.{first_state}
 use Rattle.sample_clock.specs.Samples.{Paths}
 use Rattle.scope_find.specs.Found.{ProgramScopes, found_at}
+use Rattle.scope_types.specs.declared.event.EventPeriod.{EventPeriod}
 use Rattle.scope_types.specs.declared.frame.Counted.{Counted}
 use Rattle.scope_types.specs.Distinct.{ColumnRaw, distinct, each_sample, frames_in, scopes_in}
 use Rattle.scope_types.specs.Expansion.{call_path}
-use Rattle.scope_types.specs.Limits.{most_frames_in_all, most_scopes_in_all, most_samples}
+use Rattle.scope_types.specs.Events.{retired_every}
+use Rattle.scope_types.specs.Limits.{most_frames_in_all, most_harts, most_scopes_in_all, most_samples}
+use Rattle.scope_types.specs.Raw.{HasFrames}
 use Rattle.command_line.specs.declared.status.InputFault.{InputFault}
 use Rattle.command_line.specs.declared.status.InputFault.TheVariants.{Entries, Lines, Measurement, Program, Structure, TooManyFrames, TooManySamples, TooManyScopes, WrongProgram}
 use Rattle.command_line.specs.Words.{most_period}
@@ -36,33 +39,33 @@ use Rattle.hpc_top.specs.Faulted.{faulted}
 use Rattle.hpc_top.specs.Measured.{Measured, measured, measured_run}
 use Rattle.hpc_top.specs.Product.{Product}
 use Rattle.hpc_top.specs.Program.{frame_information, program, scheduled}
-use Rattle.hpc_top.specs.Samples.{few_samples, sampled, within_frames, within_samples, within_scopes}
+use Rattle.hpc_top.specs.Samples.{few_samples, run_columns, sampled, within_frames, within_samples, within_scopes}
 use Rattle.hpc_top.specs.Scopes.{debug_entries, debug_sections, debug_texts, line_tables, program_scopes, table_offsets}
 use Rattle.hpc_top.specs.Verdict.{program_limit}
 use Rattle.hpc_top.specs.commands.Prof.{attributed_code, measurement, of_program, prof_product}
 use Rattle.hpc_top.specs.commands.Run.{head_of, measurement_of, run_product}
 use Rattle.std.specs.Prelude.{codes}
-use Rattle.hpc_top.proofs.Addresses.{IsOf, PathsHaveFrames, PathsHaveWords, low_first, samples_frames, samples_own, samples_words, slices_of}
+use Rattle.hpc_top.proofs.Addresses.{IsOf, OfInstructions, PathsHaveFrames, PathsHaveWords, low_first, samples_frames, samples_own, samples_words, slices_of}
 use Rattle.hpc_top.proofs.Collecting.{at_most, tested_ok}
 use Rattle.hpc_top.proofs.Scheduled.{entry_low, program_loaded, scheduled_own}
 
 -- the parts of a program, and its run
-pub record RunParts (elf input schedule : List ℕ) (period : ℕ) (m : Measured) : Type 0 where
+pub record RunParts (elf input schedule : List ℕ) (events : List EventPeriod) (m : Measured) : Type 0 where
   pub slices : Scheduled
   pub image : ProgramImage
   pub described : List FrameDescription
   pub slices_is : scheduled schedule ≡ Ok slices
   pub program_is : program elf ≡ Ok image
   pub frames_is : frame_information image ≡ Ok described
-  pub measured_is : measured image described slices input period ≡ Ok m
+  pub measured_is : measured image described slices input events ≡ Ok m
 
-run_made : (elf input schedule : List ℕ) (period : ℕ) (kept : Product) → run_product elf input schedule period ≡ Ok kept → (m : Measured) × (r : RunParts elf input schedule period m) × (measurement_of r.image period m ≡ kept)
+run_made : (elf input schedule : List ℕ) (period : ℕ) (kept : Product) → run_product elf input schedule period ≡ Ok kept → (m : Measured) × (r : RunParts elf input schedule (retired_every period) m) × (measurement_of r.image period m ≡ kept)
 unfolding run_product
 run_made elf input schedule period kept is =
-    let slices = bind_ok (scheduled schedule) (λ slices. program elf >>= λ image. frame_information image >>= λ described. measured image described slices input period >>= λ m. Ok (measurement_of image period m)) kept is in
-    let image = bind_ok (program elf) (λ image. frame_information image >>= λ described. measured image described slices.0 input period >>= λ m. Ok (measurement_of image period m)) kept slices.2 in
-    let described = bind_ok (frame_information image.0) (λ described. measured image.0 described slices.0 input period >>= λ m. Ok (measurement_of image.0 period m)) kept image.2 in
-    let m = bind_ok (measured image.0 described.0 slices.0 input period) (λ m. Ok (measurement_of image.0 period m)) kept described.2 in (
+    let slices = bind_ok (scheduled schedule) (λ slices. program elf >>= λ image. frame_information image >>= λ described. measured image described slices input (retired_every period) >>= λ m. Ok (measurement_of image period m)) kept is in
+    let image = bind_ok (program elf) (λ image. frame_information image >>= λ described. measured image described slices.0 input (retired_every period) >>= λ m. Ok (measurement_of image period m)) kept slices.2 in
+    let described = bind_ok (frame_information image.0) (λ described. measured image.0 described slices.0 input (retired_every period) >>= λ m. Ok (measurement_of image.0 period m)) kept image.2 in
+    let m = bind_ok (measured image.0 described.0 slices.0 input (retired_every period)) (λ m. Ok (measurement_of image.0 period m)) kept described.2 in (
       m.0,
       record {
         slices = slices.0;
@@ -79,44 +82,87 @@ run_made elf input schedule period kept is =
 -- ---- what a measurement may hold
 
 -- few samples are all samples
-few_are : (harts : ℕ) (all samples : List ColumnRaw) → few_samples harts all ≡ Ok samples → (all ≡ samples) × (length all ≤ most_samples) × (frames_in (distinct harts all) ≤ most_frames_in_all)
-few_are harts all samples is =
-    let f = bind_ok (within_frames (distinct harts (take most_samples all))) (λ _. within_samples all) samples is in
-    let frames = tested_ok (nat_lt most_frames_in_all (frames_in (distinct harts (take most_samples all)))) TooManyFrames (distinct harts (take most_samples all)) f.0 f.1 in
+few_are : (columns : ℕ) (all samples : List ColumnRaw) → few_samples columns all ≡ Ok samples → (all ≡ samples) × (length all ≤ most_samples) × (frames_in (distinct columns all) ≤ most_frames_in_all)
+few_are columns all samples is =
+    let f = bind_ok (within_frames (distinct columns (take most_samples all))) (λ _. within_samples all) samples is in
+    let frames = tested_ok (nat_lt most_frames_in_all (frames_in (distinct columns (take most_samples all)))) TooManyFrames (distinct columns (take most_samples all)) f.0 f.1 in
     let many = tested_ok (nat_lt most_samples (length all)) TooManySamples all samples f.2 in
     let few : length all ≤ most_samples = at_most most_samples (length all) many.0 in
-    (many.1, few, subst (λ (l : List ColumnRaw). frames_in (distinct harts l) ≤ most_frames_in_all) (take_all most_samples all few) (at_most most_frames_in_all (frames_in (distinct harts (take most_samples all))) frames.0))
+    (many.1, few, subst (λ (l : List ColumnRaw). frames_in (distinct columns l) ≤ most_frames_in_all) (take_all most_samples all few) (at_most most_frames_in_all (frames_in (distinct columns (take most_samples all))) frames.0))
 
 -- what is measured of a run are its few samples
-measured_few : (path_of : Paths) (period harts : ℕ) (run : Run) (m : Measured) → measured_run path_of period harts run ≡ Ok m → (few_samples harts (sampled path_of period run) ≡ Ok m.samples) × (m.harts ≡ harts)
+measured_few : (path_of : Paths) (events : List EventPeriod) (harts : ℕ) (run : Run) (m : Measured) → measured_run path_of events harts run ≡ Ok m → (few_samples (run_columns events harts) (sampled path_of events run) ≡ Ok m.samples) × (m.harts ≡ harts) × (m.events ≡ events)
 unfolding measured_run
-measured_few path_of period harts run m is =
-    let few = bind_ok (few_samples harts (sampled path_of period run)) (λ samples. Ok (record { harts = harts; samples = samples; final = run.final })) m is in
-    subst (λ (q : Measured). (few_samples harts (sampled path_of period run) ≡ Ok q.samples) × (q.harts ≡ harts)) (ok_same (record { harts = harts; samples = few.0; final = run.final }) m few.2) (few.1, refl)
+measured_few path_of events harts run m is =
+    let few = bind_ok (few_samples (run_columns events harts) (sampled path_of events run)) (λ samples. Ok (record { events = events; harts = harts; samples = samples; final = run.final })) m is in
+    subst (λ (q : Measured). (few_samples (run_columns events harts) (sampled path_of events run) ≡ Ok q.samples) × (q.harts ≡ harts) × (q.events ≡ events)) (ok_same (record { events = events; harts = harts; samples = few.0; final = run.final }) m few.2) (few.1, refl, refl)
 
-module _ (elf input schedule : List ℕ) (period : ℕ) (m : Measured) (parts_of : RunParts elf input schedule period m) (bytes : IsBytes elf) where
-  pub sampled_are : PathsHaveFrames → PathsHaveWords → AreSampled m.harts m.samples
-  sampled_are frames words =
+-- samples of a run with so many harts: within the limits of a profile, each of a column of the run, with a path of 1 to
+-- 512 frames whose addresses have 32 bits
+pub record AreTaken (events : List EventPeriod) (harts : ℕ) (samples : List ColumnRaw) : Type 0 where
+  pub some : 1 ≤ harts
+  pub few : harts ≤ most_harts
+  pub own : All (λ s. s.column < run_columns events harts) samples
+  pub paths : All (λ s. HasFrames s.raw.frames) samples
+  pub addresses : All (λ s. All HasWord s.raw.frames) samples
+  pub sampled : length samples ≤ most_samples
+  pub frames : frames_in (distinct (run_columns events harts) samples) ≤ most_frames_in_all
+
+-- where retired is the only event, each hart has one column
+pub one_column : (period harts : ℕ) → run_columns (retired_every period) harts ≡ harts
+one_column period harts = omega arith
+
+-- so they are samples of a measurement
+pub retired_sampled : (period harts : ℕ) (samples : List ColumnRaw) → AreTaken (retired_every period) harts samples → AreSampled harts samples
+retired_sampled period harts samples taken = record {
+  some = taken.some;
+  few = taken.few;
+  own = subst (λ (n : ℕ). All (λ (s : ColumnRaw). s.column < n) samples) (one_column period harts) taken.own;
+  paths = taken.paths;
+  addresses = taken.addresses;
+  sampled = taken.sampled;
+  frames = subst (λ (n : ℕ). frames_in (distinct n samples) ≤ most_frames_in_all) (one_column period harts) taken.frames;
+}
+
+-- and the samples of a measurement are such samples
+pub sampled_taken : (period harts : ℕ) (samples : List ColumnRaw) → AreSampled harts samples → AreTaken (retired_every period) harts samples
+sampled_taken period harts samples sampled = record {
+  some = sampled.some;
+  few = sampled.few;
+  own = subst (λ (n : ℕ). All (λ (s : ColumnRaw). s.column < n) samples) (sym (one_column period harts)) sampled.own;
+  paths = sampled.paths;
+  addresses = sampled.addresses;
+  sampled = sampled.sampled;
+  frames = subst (λ (n : ℕ). frames_in (distinct n samples) ≤ most_frames_in_all) (sym (one_column period harts)) sampled.frames;
+}
+
+pub events_are : (elf input schedule : List ℕ) (events : List EventPeriod) (m : Measured) → RunParts elf input schedule events m → m.events ≡ events
+events_are elf input schedule events m parts_of =
+    (measured_few (unwound_by (unwinding_of parts_of.described parts_of.image)) events parts_of.slices.harts (run_of parts_of.image parts_of.slices input) m parts_of.measured_is).2
+
+module _ (elf input schedule : List ℕ) (events : List EventPeriod) (m : Measured) (parts_of : RunParts elf input schedule events m) (bytes : IsBytes elf) where
+  pub samples_taken : OfInstructions → PathsHaveFrames → PathsHaveWords → AreTaken events m.harts m.samples
+  samples_taken each frames words =
       let harts : ℕ = parts_of.slices.harts in
       let run : Run = run_of parts_of.image parts_of.slices input in
       let u : Unwinding = unwinding_of parts_of.described parts_of.image in
-      let all : List ColumnRaw = sampled (unwound_by u) period run in
+      let all : List ColumnRaw = sampled (unwound_by u) events run in
       let own = scheduled_own schedule parts_of.slices parts_of.slices_is in
       let instants : All (IsOf harts) run.instants = slices_of harts parts_of.slices.slices (first_state parts_of.image harts input) own.slices (low_first parts_of.image.entry harts (range_with_len 0 harts) (entry_low elf parts_of.image parts_of.program_is bytes)) in
-      let few_of = measured_few (unwound_by u) period harts run m parts_of.measured_is in
-      let few = few_are harts all m.samples few_of.0 in
-      subst (λ (n : ℕ). AreSampled n m.samples) (sym few_of.1) (subst (AreSampled harts) few.0 (record {
+      let few_of = measured_few (unwound_by u) events harts run m parts_of.measured_is in
+      let few = few_are (run_columns events harts) all m.samples few_of.0 in
+      subst (λ (n : ℕ). AreTaken events n m.samples) (sym few_of.1) (subst (AreTaken events harts) few.0 (record {
         some = own.some;
         few = own.few;
-        own = samples_own u period harts run instants;
-        paths = samples_frames u period harts run instants frames;
-        addresses = samples_words u period harts run instants words;
+        own = samples_own each u events harts run instants;
+        paths = samples_frames each u events harts run instants frames;
+        addresses = samples_words each u events harts run instants words;
         sampled = few.1;
         frames = few.2;
       }))
 
-  pub head_is : length elf ≤ program_limit → 1 ≤ period → period ≤ most_period → IsHead (head_of parts_of.image period)
-  head_is short some most = record {
+  pub head_is : (period : ℕ) → length elf ≤ program_limit → 1 ≤ period → period ≤ most_period → IsHead (head_of parts_of.image period)
+  head_is period short some most = record {
     length = subst (λ (q : ProgramImage). length q.file < 2 ^ 32) (program_loaded elf parts_of.image parts_of.program_is) (let l : length elf < 2 ^ 32 = omega (arith, short) in l);
     entry = entry_low elf parts_of.image parts_of.program_is bytes;
     period = omega (arith, most);
@@ -149,14 +195,14 @@ other_many : (samples : List ColumnRaw) (many : Bool) → IfErr (let r : Result 
 other_many samples true = tt
 other_many samples false = tt
 
-other_attributed : (scopes : ProgramScopes) (harts : ℕ) (samples : List ColumnRaw) → IfErr (attributed scopes harts samples) IsOther
-other_attributed scopes harts samples =
-    other_then (within_scopes (call_path (found_at scopes)) harts samples) _ (other_many samples (nat_lt most_scopes_in_all (scopes_in (call_path (found_at scopes)) (distinct harts samples)))) (λ _. tt)
+other_attributed : (scopes : ProgramScopes) (events : List EventPeriod) (harts : ℕ) (samples : List ColumnRaw) → IfErr (attributed scopes events harts samples) IsOther
+other_attributed scopes events harts samples =
+    other_then (within_scopes (call_path (found_at scopes)) (run_columns events harts) samples) _ (other_many samples (nat_lt most_scopes_in_all (scopes_in (call_path (found_at scopes)) (distinct (run_columns events harts) samples)))) (λ _. tt)
 
-other_code : (image : ProgramImage) (period : ℕ) (tables : List (List Counted)) → IfErr (attributed_code image period tables) IsOther
-other_code image period tables =
+other_code : (image : ProgramImage) (events : List EventPeriod) (harts : ℕ) (tables : List (List Counted)) → IfErr (attributed_code image events harts tables) IsOther
+other_code image events harts tables =
     other_then (program_scopes image) _ (other_scopes image) (λ scopes.
-    other_then (attributed scopes (length tables) (each_sample tables)) _ (other_attributed scopes (length tables) (each_sample tables)) (λ a. tt))
+    other_then (attributed scopes events harts (each_sample tables)) _ (other_attributed scopes events harts (each_sample tables)) (λ a. tt))
 
 other_program : (image : ProgramImage) (head : MeasureHead) → IfErr (of_program image head) IsOther
 other_program image head =
@@ -168,9 +214,9 @@ other_program image head =
 other_prof : (elf bytes : List ℕ) (head : MeasureHead) (tables : List (List Counted)) → measurement bytes ≡ Ok (head, tables) → IfErr (prof_product elf bytes) IsOther
 unfolding prof_product
 other_prof elf bytes head tables is =
-    subst (λ (r : Result (MeasureHead × List (List Counted)) InputFault). IfErr (r >>= λ (head, tables). program elf >>= λ image. of_program image head >>= λ head. attributed_code image head.period tables) IsOther) (sym is)
+    subst (λ (r : Result (MeasureHead × List (List Counted)) InputFault). IfErr (r >>= λ (head, tables). program elf >>= λ image. of_program image head >>= λ head. attributed_code image (retired_every head.period) (length tables) tables) IsOther) (sym is)
     (other_then (program elf) _ (other_faulted Program (λ f. tt) (image_of elf)) (λ image.
-    other_then (of_program image head) _ (other_program image head) (λ own. other_code image own.period tables)))
+    other_then (of_program image head) _ (other_program image head) (λ own. other_code image (retired_every own.period) (length tables) tables)))
 
 -- ---- what `run` stores
 
@@ -181,15 +227,15 @@ Written = (head : MeasureHead) (tables : List (List Counted)) → IsMeasurable h
 abbrev pub Countable : Type 0
 Countable = (harts : ℕ) (samples : List ColumnRaw) → AreSampled harts samples → AreMeasured (distinct harts samples)
 
-pub stores_measurement : PathsHaveFrames → PathsHaveWords → Written → Countable → RunsStoreMeasurements
-stores_measurement frames words written countable elf input schedule period kept bytes short some most is =
+pub stores_measurement : OfInstructions → PathsHaveFrames → PathsHaveWords → Written → Countable → RunsStoreMeasurements
+stores_measurement each frames words written countable elf input schedule period kept bytes short some most is =
     let made = run_made elf input schedule period kept is in
     let m : Measured = made.0 in
-    let r : RunParts elf input schedule period m = made.1 in
+    let r : RunParts elf input schedule (retired_every period) m = made.1 in
     let head : MeasureHead = head_of r.image period in
     let tables : List (List Counted) = distinct m.harts m.samples in
-    let counts : AreMeasured tables = countable m.harts m.samples (sampled_are elf input schedule period m r bytes frames words) in
-    let read : measurement_in (measurement_spelling head tables) ≡ Ok (head, tables) = written head tables (record { words = head_is elf input schedule period m r bytes short some most; counts = counts }) in
+    let counts : AreMeasured tables = countable m.harts m.samples (retired_sampled period m.harts m.samples (samples_taken elf input schedule (retired_every period) m r bytes each frames words)) in
+    let read : measurement_in (measurement_spelling head tables) ≡ Ok (head, tables) = written head tables (record { words = head_is elf input schedule (retired_every period) m r bytes period short some most; counts = counts }) in
     let own : measurement (measurement_of r.image period m).stored ≡ Ok (head, tables) = ap (λ (q : Result (MeasureHead × List (List Counted)) MeasureFault). faulted (λ fault. Measurement fault.offset) q) read in
     let stored : measurement kept.stored ≡ Ok (head, tables) = subst (λ (k : Product). measurement k.stored ≡ Ok (head, tables)) made.2 own in
     record {

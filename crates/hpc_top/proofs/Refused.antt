@@ -24,7 +24,9 @@ use Rattle.rv_run.specs.Schedule.{Scheduled, schedule_of}
 use Rattle.sample_clock.specs.Samples.{Paths, samples}
 use Rattle.scope_find.specs.Found.{ProgramScopes, found_at}
 use Rattle.scope_types.specs.declared.scope.Scope.{Scope}
+use Rattle.scope_types.specs.declared.event.EventPeriod.{EventPeriod}
 use Rattle.scope_types.specs.Distinct.{ColumnRaw, distinct, frames_in, scopes_in}
+use Rattle.scope_types.specs.Events.{retired_every}
 use Rattle.scope_types.specs.Expansion.{call_path}
 use Rattle.scope_types.specs.Limits.{most_frames_in_all, most_samples, most_scopes_in_all}
 use Rattle.scope_types.specs.Raw.{Raw}
@@ -36,7 +38,7 @@ use Rattle.hpc_top.specs.Faulted.{faulted}
 use Rattle.hpc_top.specs.Measured.{Measured, measured, measured_run}
 use Rattle.hpc_top.specs.Product.{Product, only_text}
 use Rattle.hpc_top.specs.Program.{frame_fault, frame_information, program, scheduled}
-use Rattle.hpc_top.specs.Samples.{column_raw, few_samples, sampled, within_frames, within_samples, within_scopes}
+use Rattle.hpc_top.specs.Samples.{column_raw, few_samples, run_columns, sampled, within_frames, within_samples, within_scopes}
 use Rattle.hpc_top.specs.Scopes.{debug_entries, debug_sections, debug_texts, line_tables, program_scopes, table_offsets}
 use Rattle.hpc_top.specs.commands.Drill.{drill_product, drill_text}
 use Rattle.hpc_top.specs.commands.Profile.{Profiled, profiled, profiled_of, profiled_program}
@@ -65,30 +67,29 @@ limited_test false e x is fault same = absurd cc
 
 -- ---- the run
 
-few_limited : (harts : ℕ) (all : List ColumnRaw) → length all ≤ most_samples → Limited (few_samples harts all)
-few_limited harts all few =
+few_limited : (columns : ℕ) (all : List ColumnRaw) → length all ≤ most_samples → Limited (few_samples columns all)
+few_limited columns all few =
     let many : nat_lt most_samples (length all) ≡ false = le-ltb most_samples (length all) few in
     let within : within_samples all ≡ Ok all = ap (λ (b : Bool). (let r : Result (List ColumnRaw) InputFault = cond b (Err TooManySamples) (Ok all) in r)) many in
-    limited_then (within_frames (distinct harts (take most_samples all))) (λ tables. within_samples all)
-    (limited_test (nat_lt most_frames_in_all (frames_in (distinct harts (take most_samples all)))) TooManyFrames (distinct harts (take most_samples all)) (inl refl))
+    limited_then (within_frames (distinct columns (take most_samples all))) (λ tables. within_samples all)
+    (limited_test (nat_lt most_frames_in_all (frames_in (distinct columns (take most_samples all)))) TooManyFrames (distinct columns (take most_samples all)) (inl refl))
     (λ tables. limited_by (within_samples all) (Ok all) within (limited_ok all))
 
-run_limited : (path_of : Paths) (period harts : ℕ) (run : Run) → length (samples path_of period run.instants) ≤ most_samples → Limited (measured_run path_of period harts run)
+run_limited : (path_of : Paths) (events : List EventPeriod) (harts : ℕ) (run : Run) → length (samples path_of events run.instants) ≤ most_samples → Limited (measured_run path_of events harts run)
 unfolding measured_run
-run_limited path_of period harts run few =
-    let made : List ColumnRaw → Result Measured InputFault = λ all. Ok (record { harts = harts; samples = all; final = run.final }) in
-    let all : List ColumnRaw = sampled path_of period run in
-    let long : length (sampled path_of period run) ≡ length (samples path_of period run.instants) = length-map (samples path_of period run.instants) column_raw in
-    limited_then (few_samples harts (sampled path_of period run)) made (few_limited harts (sampled path_of period run) (omega (arith, long, few))) (λ all. limited_ok (let m : Measured = record { harts = harts; samples = all; final = run.final } in m))
+run_limited path_of events harts run few =
+    let made : List ColumnRaw → Result Measured InputFault = λ all. Ok (record { events = events; harts = harts; samples = all; final = run.final }) in
+    let long : length (sampled path_of events run) ≡ length (samples path_of events run.instants) = length-map (samples path_of events run.instants) (column_raw (length events)) in
+    limited_then (few_samples (run_columns events harts) (sampled path_of events run)) made (few_limited (run_columns events harts) (sampled path_of events run) (omega (arith, long, few))) (λ all. limited_ok (let m : Measured = record { events = events; harts = harts; samples = all; final = run.final } in m))
 
 profiled_limited : (scopes : ProgramScopes) (m : Measured) → Limited (profiled scopes m)
 profiled_limited scopes m =
     let expand : Raw → List Scope = call_path (found_at scopes) in
-    let made : List ColumnRaw → Result Attributed InputFault = λ all. Ok (record { scopes = scopes; harts = m.harts; samples = all }) in
+    let made : List ColumnRaw → Result Attributed InputFault = λ all. Ok (record { scopes = scopes; events = m.events; harts = m.harts; samples = all }) in
     let whole : Attributed → Result Profiled InputFault = λ a. Ok (record { measured = m; attributed = a }) in
-    limited_then (attributed scopes m.harts m.samples) whole
-    (limited_then (within_scopes expand m.harts m.samples) made (limited_test (nat_lt most_scopes_in_all (scopes_in expand (distinct m.harts m.samples))) TooManyScopes m.samples (inr refl))
-    (λ all. limited_ok (let a : Attributed = record { scopes = scopes; harts = m.harts; samples = all } in a)))
+    limited_then (attributed scopes m.events m.harts m.samples) whole
+    (limited_then (within_scopes expand (run_columns m.events m.harts) m.samples) made (limited_test (nat_lt most_scopes_in_all (scopes_in expand (distinct (run_columns m.events m.harts) m.samples))) TooManyScopes m.samples (inr refl))
+    (λ all. limited_ok (let a : Attributed = record { scopes = scopes; events = m.events; harts = m.harts; samples = all } in a)))
     (λ a. limited_ok (let p : Profiled = record { measured = m; attributed = a } in p))
 
 -- ---- what is read
@@ -122,16 +123,16 @@ scopes_read image none entries lines structure =
     let on_structure : Result ProgramStructure StructureFault → Result ProgramScopes InputFault = λ r. faulted Structure r >>= last no_lines in
     ap first a ∙ ap on_lines b ∙ ap on_structure c
 
-all_read : (elf input text : List ℕ) (period : ℕ) (schedule : Scheduled) (image : ProgramImage) (described : List FrameDescription) (scopes : ProgramScopes) → scheduled text ≡ Ok schedule → program elf ≡ Ok image
-    → frame_information image ≡ Ok described → program_scopes image ≡ Ok scopes → profiled_of elf input text period ≡ profiled_program image described scopes schedule input period
+all_read : (elf input text : List ℕ) (events : List EventPeriod) (schedule : Scheduled) (image : ProgramImage) (described : List FrameDescription) (scopes : ProgramScopes) → scheduled text ≡ Ok schedule → program elf ≡ Ok image
+    → frame_information image ≡ Ok described → program_scopes image ≡ Ok scopes → profiled_of elf input text events ≡ profiled_program image described scopes schedule input events
 unfolding profiled_of
-all_read elf input text period schedule image described scopes a b c d = rw (a, b, c, d) refl
+all_read elf input text events schedule image described scopes a b c d = rw (a, b, c, d) refl
 
 pub refused_for_paths : ((number : ℕ) → schedule_of (guest_of number).schedule ≡ Ok (guest_scheduled number)) → ((number : ℕ) → image_of (guest_of number).elf ≡ Ok (guest_image number))
     → ((number : ℕ) → IsOk (descriptions_of_both (bytes_of_name (guest_image number).sections (codes ".debug_frame")) (bytes_of_name (guest_image number).sections (codes ".eh_frame"))
     (address_of_name (guest_image number).sections (codes ".eh_frame")) (guest_image number).segments))
     → ((number : ℕ) → All (λ name. bytes_of_name (guest_image number).sections name ≡ []) debug_information_names) → NoEntries → NoLines → NoStructure
-    → ((number : ℕ) (path_of : Paths) → length (samples path_of (guest_of number).period (run_of (guest_image number) (guest_scheduled number) (guest_of number).input).instants) ≤ most_guest_samples)
+    → ((number : ℕ) (path_of : Paths) → length (samples path_of (retired_every (guest_of number).period) (run_of (guest_image number) (guest_scheduled number) (guest_of number).input).instants) ≤ most_guest_samples)
     → (number : ℕ) (fault : InputFault) → drill_product number ≡ Err fault → AreLimits fault
 unfolding drill_product
 refused_for_paths schedules programs frames empty entries lines structure few number =
@@ -149,9 +150,9 @@ refused_for_paths schedules programs frames empty entries lines structure few nu
     let path_of : Paths = unwound_by (unwinding_of found.0 (guest_image number)) in
     let run : Run = run_of (guest_image number) (guest_scheduled number) [] in
     let short = few number path_of in
-    let made : Profiled → Result Product InputFault = λ p. Ok (only_text (drill_text number 97 p)) in
-    limited_then (profiled_of (guest_of number).elf [] (guest_of number).schedule 97) made
-    (limited_by (profiled_of (guest_of number).elf [] (guest_of number).schedule 97) (profiled_program (guest_image number) found.0 scopes (guest_scheduled number) [] 97)
-    (all_read (guest_of number).elf [] (guest_of number).schedule 97 (guest_scheduled number) (guest_image number) found.0 scopes a b c d)
-    (limited_then (measured (guest_image number) found.0 (guest_scheduled number) [] 97) (profiled scopes) (run_limited path_of 97 4 run (omega (arith, short))) (profiled_limited scopes)))
-    (λ p. limited_ok (only_text (drill_text number 97 p)))
+    let made : Profiled → Result Product InputFault = λ p. Ok (only_text (drill_text number p)) in
+    limited_then (profiled_of (guest_of number).elf [] (guest_of number).schedule (retired_every 97)) made
+    (limited_by (profiled_of (guest_of number).elf [] (guest_of number).schedule (retired_every 97)) (profiled_program (guest_image number) found.0 scopes (guest_scheduled number) [] (retired_every 97))
+    (all_read (guest_of number).elf [] (guest_of number).schedule (retired_every 97) (guest_scheduled number) (guest_image number) found.0 scopes a b c d)
+    (limited_then (measured (guest_image number) found.0 (guest_scheduled number) [] (retired_every 97)) (profiled scopes) (run_limited path_of (retired_every 97) 4 run (omega (arith, short))) (profiled_limited scopes)))
+    (λ p. limited_ok (only_text (drill_text number p)))

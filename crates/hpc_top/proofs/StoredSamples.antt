@@ -1,8 +1,8 @@
 -- The call paths of samples that are accepted are stored, and so their database is read as what it was made of.
-use Rattle.std.proofs.Common.{◌≡◌, ℕ, ◌+◌, ◌==◌, ◌&&◌, ◌<◌, ◌≤◌, ◌^◌, nat_lt, Bool, true, false, cond, List, [], ◌∷◌, length, get_or, map, replicate, All, Result, Ok, Err, refl, sym, ap, subst, ◌∙◌, arith}
+use Rattle.std.proofs.Common.{◌≡◌, ℕ, ◌+◌, ◌==◌, ◌&&◌, ◌<◌, ◌≤◌, ◌^◌, nat_lt, Bool, true, false, cond, List, [], ◌∷◌, length, get_or, map, replicate, All, Option, Result, Ok, Err, refl, sym, ap, subst, ◌∙◌, arith}
 use Rattle.std.specs.List.{enumerate_from, flat_map}
 use Rattle.std.proofs.lemmas.List.{length-map}
-use Rattle.std.proofs.lemmas.List.Elements.{All-append, All-head, All-map, All-nil, All-replicate, All-tail}
+use Rattle.std.proofs.lemmas.List.Elements.{All-append, All-cons, All-head, All-map, All-nil, All-replicate, All-tail, All-weaker}
 use Rattle.prof_bytes.specs.Number.{IsBytes}
 use Rattle.prof_bytes.specs.Outcome.{◌>>=◌}
 use Rattle.prof_bytes.proofs.Outcomes.{bind_ok, ok_same}
@@ -11,21 +11,26 @@ use Rattle.measure_file.specs.declared.head.MeasureHead.{MeasureHead}
 use Rattle.measure_file.specs.Measurable.{AreMeasured, AreSampled, HasWord, IsCounted, IsMeasurable}
 use Rattle.measure_file.specs.Reading.{measurement_in}
 use Rattle.prof_db.specs.declared.fault.DbFault.{DbFault}
-use Rattle.prof_db.specs.Rules.{database_in}
-use Rattle.prof_db.specs.Spelling.{database_spelling}
-use Rattle.prof_db.specs.Stored.{AreStored, HasWordNumbers, is_call_path}
+use Rattle.prof_db.specs.Rules.{events_in}
+use Rattle.prof_db.specs.Spelling.{events_spelling}
+use Rattle.prof_db.specs.Stored.{AreEventsStored, HasWordNumbers, IsWord, is_call_path}
 use Rattle.scope_find.specs.Found.{ProgramScopes, found_at, naming_of}
 use Rattle.hpc_top.proofs.SmallNumbers.{AreScopesOf}
+use Rattle.scope_types.specs.declared.event.Event.{Event}
+use Rattle.scope_types.specs.declared.event.EventPeriod.{EventPeriod}
 use Rattle.scope_types.specs.declared.frame.Counted.{Counted}
 use Rattle.scope_types.specs.declared.scope.Scope.{Scope}
 use Rattle.scope_types.specs.CallPaths.{ColumnPath}
+use Rattle.scope_types.specs.Columns.{paths_of_event}
 use Rattle.scope_types.specs.Distinct.{ColumnRaw, distinct, each_of_column, each_sample, frames_in, samples_in, scopes_in}
+use Rattle.scope_types.specs.Events.{AreEvents, retired_every}
 use Rattle.scope_types.specs.Expansion.{FoundAt, call_path}
 use Rattle.scope_types.specs.Limits.{most_frames_in_all, most_scopes_in_all}
 use Rattle.scope_types.specs.Raw.{HasFrames, Raw}
-use Rattle.tree_types.specs.declared.content.Content.{Content}
-use Rattle.tree_types.specs.Database.{content_of}
+use Rattle.tree_types.specs.declared.content.EventContent.{EventContent}
+use Rattle.tree_types.specs.Database.{event_content_of, period_at}
 use Rattle.tree_types.specs.Naming.{Naming}
+use Rattle.command_line.specs.Words.{most_period}
 use Rattle.command_line.specs.declared.request.ViewTable.{ViewTable}
 use Rattle.command_line.specs.declared.status.InputFault.{InputFault}
 use Rattle.command_line.specs.declared.status.InputFault.TheVariants.{Database, Measurement, WrongProgram}
@@ -34,12 +39,12 @@ use Rattle.hpc_top.specs.Databases.{IsDatabaseOf, ProfilesStoreDatabases, ProfsS
 use Rattle.hpc_top.specs.Faulted.{faulted}
 use Rattle.hpc_top.specs.Product.{Product, only_text}
 use Rattle.hpc_top.specs.Program.{program}
-use Rattle.hpc_top.specs.Samples.{sample_path}
+use Rattle.hpc_top.specs.Samples.{run_columns, sample_path}
 use Rattle.hpc_top.specs.Scopes.{program_scopes}
 use Rattle.hpc_top.specs.commands.Prof.{attributed_code, measurement, of_program, prof_product}
 use Rattle.hpc_top.specs.commands.Profile.{product_of, profile_of, profiled_of}
-use Rattle.hpc_top.specs.commands.View.{table_of_paths, view_product}
-use Rattle.hpc_top.proofs.Addresses.{PathsHaveFrames, PathsHaveWords}
+use Rattle.hpc_top.specs.commands.View.{shown_at, table_of_paths, view_product}
+use Rattle.hpc_top.proofs.Addresses.{OfInstructions, PathsHaveFrames, PathsHaveWords}
 use Rattle.hpc_top.proofs.Apart.{Parts, SamplesAlike, parts, run_parts}
 use Rattle.hpc_top.proofs.Collecting.{at_most}
 use Rattle.hpc_top.proofs.Faults.{from_faulted}
@@ -47,15 +52,17 @@ use Rattle.hpc_top.proofs.FoundNumbers.{found_numbers, names_short}
 use Rattle.hpc_top.proofs.FewNodes.{NodesAlike, NodesFew, few_nodes}
 use Rattle.hpc_top.proofs.PathNumbers.{path_small}
 use Rattle.hpc_top.proofs.Products.{attributed_as, scopes_decide}
-use Rattle.hpc_top.proofs.Ran.{sampled_are}
+use Rattle.hpc_top.proofs.FewEvents.{own_columns, retired_are, retired_with}
+use Rattle.hpc_top.proofs.Ran.{AreTaken, RunParts, events_are, sampled_taken, samples_taken}
 use Rattle.hpc_top.proofs.ScopesRead.{scopes_read}
 
 -- what the laws of databases, of call paths and of nodes say
 pub record StoredLaws : Type 0 where
-  pub shown : (table : ViewTable) (period harts : ℕ) (naming : Naming) (paths : List ColumnPath) → AreStored period harts naming paths
-      → view_product table (database_spelling (content_of period harts naming paths)) ≡ Ok (only_text (table_of_paths table period harts naming paths))
-  pub read : (period columns : ℕ) (naming : Naming) (paths : List ColumnPath) → AreStored period columns naming paths
-      → database_in (database_spelling (content_of period columns naming paths)) ≡ Ok (content_of period columns naming paths)
+  pub shown : (table : ViewTable) (event : Option Event) (events : List EventPeriod) (harts : ℕ) (naming : Naming) (paths : List ColumnPath) → AreEventsStored events harts naming paths
+      → view_product table event (events_spelling (event_content_of events (harts ∷ []) naming paths))
+      ≡ shown_at event events (λ place. table_of_paths table (period_at events place) harts naming (paths_of_event (length events) place paths))
+  pub read : (events : List EventPeriod) (harts : ℕ) (naming : Naming) (paths : List ColumnPath) → AreEventsStored events harts naming paths
+      → events_in (events_spelling (event_content_of events (harts ∷ []) naming paths)) ≡ Ok (event_content_of events (harts ∷ []) naming paths)
   pub call_paths : (found_at : ℕ → FoundAt) (raw : Raw) → 0 < length raw.frames → is_call_path (call_path found_at raw) ≡ true
   pub samples_alike : SamplesAlike
   pub nodes_alike : NodesAlike
@@ -63,71 +70,75 @@ pub record StoredLaws : Type 0 where
 
 -- ---- samples that are accepted
 
-few_scopes : (scopes : ProgramScopes) (harts : ℕ) (samples : List ColumnRaw) (a : Attributed) → attributed scopes harts samples ≡ Ok a → scopes_in (call_path (found_at scopes)) (distinct harts samples) ≤ most_scopes_in_all
-few_scopes scopes harts samples a is = tested (nat_lt most_scopes_in_all (scopes_in (call_path (found_at scopes)) (distinct harts samples))) refl is
+few_scopes : (scopes : ProgramScopes) (events : List EventPeriod) (harts : ℕ) (samples : List ColumnRaw) (a : Attributed) → attributed scopes events harts samples ≡ Ok a → scopes_in (call_path (found_at scopes)) (distinct (run_columns events harts) samples) ≤ most_scopes_in_all
+few_scopes scopes events harts samples a is = tested (nat_lt most_scopes_in_all (scopes_in (call_path (found_at scopes)) (distinct (run_columns events harts) samples))) refl is
   where
-    tested : (many : Bool) → nat_lt most_scopes_in_all (scopes_in (call_path (found_at scopes)) (distinct harts samples)) ≡ many → scopes_decide scopes harts samples many ≡ Ok a
-        → scopes_in (call_path (found_at scopes)) (distinct harts samples) ≤ most_scopes_in_all
+    tested : (many : Bool) → nat_lt most_scopes_in_all (scopes_in (call_path (found_at scopes)) (distinct (run_columns events harts) samples)) ≡ many → scopes_decide scopes events harts samples many ≡ Ok a
+        → scopes_in (call_path (found_at scopes)) (distinct (run_columns events harts) samples) ≤ most_scopes_in_all
     tested true many e = absurd cc
-    tested false many e = at_most most_scopes_in_all (scopes_in (call_path (found_at scopes)) (distinct harts samples)) many
+    tested false many e = at_most most_scopes_in_all (scopes_in (call_path (found_at scopes)) (distinct (run_columns events harts) samples)) many
 
-module _ (laws : StoredLaws) (period : ℕ) (some : 1 ≤ period) (small : period < 2 ^ 32) (elf : List ℕ) (scopes : ProgramScopes) (of : AreScopesOf elf scopes) where
+module _ (laws : StoredLaws) (events : List EventPeriod) (are : AreEvents events) (small : All (λ e. IsWord e.period) events) (elf : List ℕ) (scopes : ProgramScopes) (of : AreScopesOf elf scopes) where
   abbrev expand : Raw → List Scope
   expand = call_path (found_at scopes)
 
-  module _ (harts : ℕ) (samples : List ColumnRaw) (sampled : AreSampled harts samples) (few : scopes_in expand (distinct harts samples) ≤ most_scopes_in_all) where
+  module _ (harts : ℕ) (samples : List ColumnRaw) (taken : AreTaken events harts samples) (few : scopes_in expand (distinct (run_columns events harts) samples) ≤ most_scopes_in_all) where
     abbrev paths : List ColumnPath
     paths = map (sample_path expand) samples
 
-    are_stored : AreStored period harts (naming_of scopes) paths
+    are_stored : AreEventsStored events harts (naming_of scopes) paths
     are_stored =
         let naming = names_short elf scopes of in
-        let nodes = few_nodes expand laws.samples_alike laws.nodes_alike laws.nodes_few harts samples sampled.own in
+        let nodes = few_nodes expand laws.samples_alike laws.nodes_alike laws.nodes_few (run_columns events harts) samples taken.own in
         let long = length-map samples (sample_path expand) in
-        let most = sampled.sampled in
+        let most = taken.sampled in
         record {
-          some_period = omega (arith, some);
-          small_period = small;
-          some_columns = sampled.some;
-          most_harts = sampled.few;
-          below = All-map (λ (p : ColumnPath). p.column < harts) (sample_path expand) samples sampled.own;
+          are_events = are;
+          small_periods = small;
+          some_harts = taken.some;
+          most_harts = taken.few;
+          below = subst (λ (n : ℕ). All (λ (p : ColumnPath). p.column < n) paths) (sym (own_columns events harts)) (All-map (λ (p : ColumnPath). p.column < run_columns events harts) (sample_path expand) samples taken.own);
           few_samples = omega (arith, long, most);
           few_nodes = omega (arith, nodes, few);
           call_paths = All-map (λ (p : ColumnPath). is_call_path p.path ≡ true) (sample_path expand) samples
-              (λ k d lt. laws.call_paths (found_at scopes) (get_or samples k d).raw (let frames = (sampled.paths k d lt).some in omega (arith, frames)));
+              (λ k d lt. laws.call_paths (found_at scopes) (get_or samples k d).raw (let frames = (taken.paths k d lt).some in omega (arith, frames)));
           scopes = All-map (λ (p : ColumnPath). All HasWordNumbers p.path) (sample_path expand) samples
-              (λ k d lt. path_small (found_at scopes) (λ address low. found_numbers elf scopes of address low) (get_or samples k d).raw (sampled.addresses k d lt));
+              (λ k d lt. path_small (found_at scopes) (λ address low. found_numbers elf scopes of address low) (get_or samples k d).raw (taken.addresses k d lt));
           procs = naming.procs;
           nameless = naming.nameless;
           files = naming.files;
         }
 
-    database_of : IsDatabaseOf period (record { scopes = scopes; harts = harts; samples = samples }) (database_spelling (content_of period harts (naming_of scopes) paths))
+    database_of : IsDatabaseOf (record { scopes = scopes; events = events; harts = harts; samples = samples }) (events_spelling (event_content_of events (harts ∷ []) (naming_of scopes) paths))
     database_of = record {
-      read = ap (λ (r : Result Content DbFault). faulted (λ fault. Database fault.offset fault.rule) r) (laws.read period harts (naming_of scopes) paths are_stored);
-      shown = λ table. laws.shown table period harts (naming_of scopes) paths are_stored;
+      read = ap (λ (r : Result EventContent DbFault). faulted (λ fault. Database fault.offset fault.rule) r) (laws.read events harts (naming_of scopes) paths are_stored);
+      shown = λ table event. laws.shown table event events harts (naming_of scopes) paths are_stored;
     }
 
   -- and so is what was attributed of them
-  pub database_attributed : (harts : ℕ) (samples : List ColumnRaw) → AreSampled harts samples → (a : Attributed) → attributed scopes harts samples ≡ Ok a → IsDatabaseOf period a (attribution_of period a).stored
-  database_attributed harts samples sampled a is =
-      subst (λ (b : Attributed). IsDatabaseOf period b (attribution_of period b).stored) (sym (attributed_as scopes harts samples a is)) (database_of harts samples sampled (few_scopes scopes harts samples a is))
+  pub database_attributed : (harts : ℕ) (samples : List ColumnRaw) → AreTaken events harts samples → (a : Attributed) → attributed scopes events harts samples ≡ Ok a → IsDatabaseOf a (attribution_of a).stored
+  database_attributed harts samples taken a is =
+      subst (λ (b : Attributed). IsDatabaseOf b (attribution_of b).stored) (sym (attributed_as scopes events harts samples a is)) (database_of harts samples taken (few_scopes scopes events harts samples a is))
 
 -- ---- of a run
 
-pub profiles_stored : StoredLaws → PathsHaveFrames → PathsHaveWords → ProfilesStoreDatabases
+pub profiles_stored : StoredLaws → OfInstructions → PathsHaveFrames → PathsHaveWords → ProfilesStoreDatabases
 unfolding profile_of
-profiles_stored laws frames words elf input schedule period whole bytes short some most is =
-    let p = bind_ok (profiled_of elf input schedule period) (λ p. Ok (product_of period p)) whole is in
-    let made : Parts elf input schedule period p.0 = parts elf input schedule period p.0 p.1 in
+profiles_stored laws each frames words elf input schedule events whole bytes short are most is =
+    let p = bind_ok (profiled_of elf input schedule events) (λ p. Ok (product_of p)) whole is in
+    let made : Parts elf input schedule events p.0 = parts elf input schedule events p.0 p.1 in
     let of : AreScopesOf elf made.scopes = scopes_read elf made.image made.scopes made.program_is made.scopes_is short in
-    let sampled = sampled_are elf input schedule period p.0.measured (run_parts elf input schedule period p.0 made) bytes frames words in
-    let database : IsDatabaseOf period p.0.attributed (product_of period p.0).stored =
-    database_attributed laws period some (omega (arith, most)) elf made.scopes of p.0.measured.harts p.0.measured.samples sampled p.0.attributed made.attributed_is in
+    let parts_of : RunParts elf input schedule events p.0.measured = run_parts elf input schedule events p.0 made in
+    let taken = samples_taken elf input schedule events p.0.measured parts_of bytes each frames words in
+    let small : All (λ e. IsWord e.period) events = All-weaker (λ (e : EventPeriod). e.period ≤ most_period) (λ (e : EventPeriod). IsWord e.period) (λ e le. omega (arith, le)) events most in
+    let own : attributed made.scopes events p.0.measured.harts p.0.measured.samples ≡ Ok p.0.attributed =
+    subst (λ (es : List EventPeriod). attributed made.scopes es p.0.measured.harts p.0.measured.samples ≡ Ok p.0.attributed) (events_are elf input schedule events p.0.measured parts_of) made.attributed_is in
+    let database : IsDatabaseOf p.0.attributed (product_of p.0).stored =
+    database_attributed laws events are small elf made.scopes of p.0.measured.harts p.0.measured.samples taken p.0.attributed own in
     record {
       run = p.0;
       profiled = p.1;
-      stored = subst (λ (made : Product). IsDatabaseOf period p.0.attributed made.stored) (ok_same (product_of period p.0) whole p.2) database;
+      stored = subst (λ (made : Product). IsDatabaseOf p.0.attributed made.stored) (ok_same (product_of p.0) whole p.2) database;
     }
 
 -- ---- of a measurement
@@ -178,20 +189,24 @@ own_head false head own fault e = absurd cc
 pub profs_stored : StoredLaws → MeasuredLaws → ProfsStoreDatabases
 unfolding prof_product
 profs_stored laws measured elf bytes whole short are is =
-    let m = bind_ok (measurement bytes) (λ (head, tables). program elf >>= λ image. of_program image head >>= λ head. attributed_code image head.period tables) whole is in
+    let m = bind_ok (measurement bytes) (λ (head, tables). program elf >>= λ image. of_program image head >>= λ head. attributed_code image (retired_every head.period) (length tables) tables) whole is in
     let head : MeasureHead = m.0.0 in
     let tables : List (List Counted) = m.0.1 in
-    let image = bind_ok (program elf) (λ image. of_program image head >>= λ head. attributed_code image head.period tables) whole m.2 in
-    let own = bind_ok (of_program image.0 head) (λ head. attributed_code image.0 head.period tables) whole image.2 in
-    let scopes = bind_ok (program_scopes image.0) (λ scopes. attributed scopes (length tables) (each_sample tables) >>= λ a. Ok (attribution_of own.0.period a)) whole own.2 in
-    let a = bind_ok (attributed scopes.0 (length tables) (each_sample tables)) (λ a. Ok (attribution_of own.0.period a)) whole scopes.2 in
+    let image = bind_ok (program elf) (λ image. of_program image head >>= λ head. attributed_code image (retired_every head.period) (length tables) tables) whole m.2 in
+    let own = bind_ok (of_program image.0 head) (λ head. attributed_code image.0 (retired_every head.period) (length tables) tables) whole image.2 in
+    let scopes = bind_ok (program_scopes image.0) (λ scopes. attributed scopes (retired_every own.0.period) (length tables) (each_sample tables) >>= λ a. Ok (attribution_of a)) whole own.2 in
+    let a = bind_ok (attributed scopes.0 (retired_every own.0.period) (length tables) (each_sample tables)) (λ a. Ok (attribution_of a)) whole scopes.2 in
     let same : head ≡ own.0 =
     own_head (head.length == length image.0.file && head.entry == image.0.entry) head own.0 (WrongProgram head.length head.entry (length image.0.file) image.0.entry) own.1 in
     let sound : IsMeasurable head tables = measured.measurable bytes m.0 are (from_faulted (λ (fault : MeasureFault). Measurement fault.offset) (measurement_in bytes) m.0 m.1) in
     let of : AreScopesOf elf scopes.0 = scopes_read elf image.0 scopes.0 image.1 scopes.1 short in
-    let database : IsDatabaseOf head.period a.0 (attribution_of head.period a.0).stored =
-    database_attributed laws head.period sound.words.some sound.words.period elf scopes.0 of (length tables) (each_sample tables) (measured_sampled measured tables sound.counts) a.0 a.1 in
-    let made : attribution_of head.period a.0 ≡ whole = ap (λ (h : MeasureHead). attribution_of h.period a.0) same ∙ ok_same (attribution_of own.0.period a.0) whole a.2 in
+    let events : List EventPeriod = retired_every head.period in
+    let taken : attributed scopes.0 (retired_every head.period) (length tables) (each_sample tables) ≡ Ok a.0 =
+    subst (λ (h : MeasureHead). attributed scopes.0 (retired_every h.period) (length tables) (each_sample tables) ≡ Ok a.0) (sym same) a.1 in
+    let small : All (λ e. IsWord e.period) events = All-cons (λ (e : EventPeriod). IsWord e.period) (retired_with head.period) [] sound.words.period (All-nil (λ (e : EventPeriod). IsWord e.period)) in
+    let database : IsDatabaseOf a.0 (attribution_of a.0).stored =
+    database_attributed laws (retired_every head.period) (retired_are head.period sound.words.some) small elf scopes.0 of (length tables) (each_sample tables) (sampled_taken head.period (length tables) (each_sample tables) (measured_sampled measured tables sound.counts)) a.0 taken in
+    let made : attribution_of a.0 ≡ whole = ok_same (attribution_of a.0) whole a.2 in
     record {
       head = head;
       tables = tables;
@@ -201,6 +216,6 @@ profs_stored laws measured elf bytes whole short are is =
       scopes = scopes.0;
       found = scopes.1;
       samples = a.0;
-      taken = a.1;
-      stored = subst (λ (made : Product). IsDatabaseOf head.period a.0 made.stored) made database;
+      taken = taken;
+      stored = subst (λ (made : Product). IsDatabaseOf a.0 made.stored) made database;
     }

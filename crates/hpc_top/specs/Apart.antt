@@ -1,6 +1,7 @@
--- A profile in two commands: a run that is measured, and the attribution of its measurement.
+-- A profile of retired instructions in two commands: a run that is measured, and the attribution of its measurement.
 use Rattle.std.specs.Prelude.{◌≡◌, ◌≤◌, ℕ, List, ◌++◌, length, Ok}
 use Rattle.prof_bytes.specs.Number.{IsBytes}
+use Rattle.scope_types.specs.Events.{retired_every}
 use Rattle.hpc_top.specs.Product.{Product}
 use Rattle.hpc_top.specs.commands.Run.{run_product}
 use Rattle.hpc_top.specs.commands.Prof.{prof_product}
@@ -18,8 +19,8 @@ pub record IsApart (elf input schedule : List ℕ) (period : ℕ) (whole : Produ
   pub stored : table.stored ≡ whole.stored
   pub text : whole.text ≡ kept.text ++ table.text
 
--- every profile of a program within its limit can be made so
+-- every profile of retired instructions can be made so, of a program within its limit
 abbrev pub RunThenProf : Type 0
 RunThenProf = (elf input schedule : List ℕ) (period : ℕ) (whole : Product)
     → IsBytes elf → length elf ≤ program_limit → 1 ≤ period → period ≤ most_period
-    → profile_of elf input schedule period ≡ Ok whole → IsApart elf input schedule period whole
+    → profile_of elf input schedule (retired_every period) ≡ Ok whole → IsApart elf input schedule period whole

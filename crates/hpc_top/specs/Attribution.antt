@@ -1,40 +1,72 @@
--- Samples, attributed to scopes, with their database and their table (HPCToolkit's manual, "Attribution").
-use Rattle.std.specs.Prelude.{ℕ, List, map, Result, Ok}
+-- Samples, attributed to scopes, with their database and their tables (HPCToolkit's manual, "Attribution").
+use Rattle.std.specs.Prelude.{ℕ, List, [], ◌∷◌, ◌++◌, length, map, Result, Ok, if◌then◌else◌}
+use Rattle.std.specs.List.{enumerate_from, flat_map}
 use Rattle.prof_bytes.specs.Outcome.{◌>>=◌}
-use Rattle.prof_db.specs.Spelling.{database_spelling}
+use Rattle.prof_db.specs.Spelling.{events_spelling}
+use Rattle.run_report.specs.Report.{event_line, samples_by_event}
 use Rattle.scope_find.specs.Found.{ProgramScopes, found_at, naming_of}
+use Rattle.scope_types.specs.declared.event.EventPeriod.{EventPeriod}
 use Rattle.scope_types.specs.CallPaths.{ColumnPath}
+use Rattle.scope_types.specs.Columns.{paths_of_event}
 use Rattle.scope_types.specs.Distinct.{ColumnRaw}
+use Rattle.scope_types.specs.Events.{is_retired_alone}
 use Rattle.scope_types.specs.Expansion.{call_path}
-use Rattle.tree_types.specs.Database.{content_of}
+use Rattle.tree_types.specs.declared.content.EventContent.{EventContent}
+use Rattle.tree_types.specs.Database.{event_content_of}
 use Rattle.tree_types.specs.TopDown.{top_down}
 use Rattle.command_line.specs.declared.status.InputFault.{InputFault}
 use Rattle.hpc_top.specs.Product.{Product}
-use Rattle.hpc_top.specs.Samples.{sample_path, within_scopes}
+use Rattle.hpc_top.specs.Samples.{run_columns, sample_path, within_scopes}
 
--- samples of a given number of harts, and the scopes of their program
+-- ---- the samples
+
+-- samples of events with their periods, on a given number of harts, and the scopes of their program
 pub record Attributed : Type 0 where
   pub scopes : ProgramScopes
+  pub events : List EventPeriod
   pub harts : ℕ
   pub samples : List ColumnRaw
 
 -- samples, unless these have too many scopes
-abbrev pub attributed : ProgramScopes → ℕ → List ColumnRaw → Result Attributed InputFault
-attributed scopes harts samples = do
-  samples ← within_scopes (call_path (found_at scopes)) harts samples
-  Ok (record { scopes = scopes; harts = harts; samples = samples })
+abbrev pub attributed : ProgramScopes → List EventPeriod → ℕ → List ColumnRaw → Result Attributed InputFault
+attributed scopes events harts samples = do
+  samples ← within_scopes (call_path (found_at scopes)) (run_columns events harts) samples
+  Ok (record { scopes = scopes; events = events; harts = harts; samples = samples })
 
 -- the call paths of the samples
 abbrev pub call_paths_of : Attributed → List ColumnPath
 call_paths_of a = map (sample_path (call_path (found_at a.scopes))) a.samples
 
--- the database and the top-down table of these paths
-abbrev pub attribution_from : ℕ → Attributed → List ColumnPath → Product
-attribution_from period a paths = record {
-  stored = database_spelling (content_of period a.harts (naming_of a.scopes) paths);
-  text = top_down period a.harts (naming_of a.scopes) paths;
+-- ---- what is made of call paths of these events
+
+-- their content
+abbrev pub event_content : Attributed → List ColumnPath → EventContent
+event_content a paths = event_content_of a.events (a.harts ∷ []) (naming_of a.scopes) paths
+
+-- the line of an event, which is given with its place in the list. There is none where retired is the only event
+abbrev pub line_of_event : List EventPeriod → List ColumnRaw → ℕ × EventPeriod → List ℕ
+line_of_event events samples numbered =
+    if is_retired_alone events then []
+    else event_line numbered.1 (samples_by_event (length events) samples numbered.0)
+
+-- the top-down table of an event: of its call paths alone, by its period
+abbrev pub table_of_event : Attributed → List ColumnPath → ℕ × EventPeriod → List ℕ
+table_of_event a paths numbered =
+    top_down numbered.1.period a.harts (naming_of a.scopes) (paths_of_event (length a.events) numbered.0 paths)
+
+-- the events one after another, each with its line before its table
+abbrev pub event_tables : Attributed → List ColumnPath → List ℕ
+event_tables a paths =
+    flat_map (λ numbered. line_of_event a.events a.samples numbered ++ table_of_event a paths numbered)
+    (enumerate_from 0 a.events)
+
+-- the database, and the tables
+abbrev pub attribution_from : Attributed → List ColumnPath → Product
+attribution_from a paths = record {
+  stored = events_spelling (event_content a paths);
+  text = event_tables a paths;
 }
 
--- the database and the top-down table of all samples
-abbrev pub attribution_of : ℕ → Attributed → Product
-attribution_of period a = attribution_from period a (call_paths_of a)
+-- the database and the tables of all samples
+abbrev pub attribution_of : Attributed → Product
+attribution_of a = attribution_from a (call_paths_of a)

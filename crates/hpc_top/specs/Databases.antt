@@ -1,39 +1,50 @@
 -- What commands store: each database is read as what it was made of, and each measurement is one.
-use Rattle.std.specs.Prelude.{◌≡◌, ◌≢◌, ◌≤◌, ℕ, List, length, Ok, Err}
+use Rattle.std.specs.Prelude.{◌≡◌, ◌≢◌, ◌≤◌, ℕ, List, All, length, Option, Ok, Err}
 use Rattle.prof_bytes.specs.Number.{IsBytes}
 use Rattle.elf_image.specs.Image.{ProgramImage}
 use Rattle.measure_file.specs.declared.head.MeasureHead.{MeasureHead}
 use Rattle.scope_find.specs.Found.{ProgramScopes, naming_of}
+use Rattle.scope_types.specs.declared.event.Event.{Event}
+use Rattle.scope_types.specs.declared.event.EventPeriod.{EventPeriod}
 use Rattle.scope_types.specs.declared.frame.Counted.{Counted}
+use Rattle.scope_types.specs.Columns.{paths_of_event}
 use Rattle.scope_types.specs.Distinct.{distinct, each_sample}
-use Rattle.tree_types.specs.Database.{content_of}
+use Rattle.scope_types.specs.Events.{AreEvents, retired_every}
+use Rattle.tree_types.specs.Database.{period_at}
 use Rattle.command_line.specs.Words.{most_period}
 use Rattle.command_line.specs.declared.request.ViewTable.{ViewTable}
 use Rattle.command_line.specs.declared.status.InputFault.TheVariants.{Measurement}
-use Rattle.hpc_top.specs.Attribution.{Attributed, attributed, call_paths_of}
+use Rattle.hpc_top.specs.Attribution.{Attributed, attributed, call_paths_of, event_content}
 use Rattle.hpc_top.specs.Measured.{Measured}
-use Rattle.hpc_top.specs.Product.{Product, only_text}
+use Rattle.hpc_top.specs.Product.{Product}
 use Rattle.hpc_top.specs.Program.{program}
 use Rattle.hpc_top.specs.Scopes.{program_scopes}
 use Rattle.hpc_top.specs.Verdict.{program_limit}
 use Rattle.hpc_top.specs.commands.Prof.{measurement, prof_product}
 use Rattle.hpc_top.specs.commands.Profile.{Profiled, profile_of, profiled_of}
 use Rattle.hpc_top.specs.commands.Run.{head_of, run_product}
-use Rattle.hpc_top.specs.commands.View.{database, table_of_paths, view_product}
+use Rattle.hpc_top.specs.commands.View.{database, shown_at, table_of_paths, view_product}
 
 -- ---- databases
 
--- bytes that are read as the content of samples' call paths; `view` of them puts each table of these paths
-pub record IsDatabaseOf (period : ℕ) (a : Attributed) (bytes : List ℕ) : Type 0 where
-  pub read : database bytes ≡ Ok (content_of period a.harts (naming_of a.scopes) (call_paths_of a))
-  pub shown : (table : ViewTable) → view_product table bytes
-      ≡ Ok (only_text (table_of_paths table period a.harts (naming_of a.scopes) (call_paths_of a)))
+-- a table of the event at this place, of the samples' call paths
+abbrev pub table_at : ViewTable → Attributed → ℕ → List ℕ
+table_at table a place =
+    table_of_paths table (period_at a.events place) a.harts (naming_of a.scopes)
+    (paths_of_event (length a.events) place (call_paths_of a))
+
+-- bytes that are read as the content of samples' call paths. `view` of them puts each table of each event's paths; of an
+-- event that was not sampled it refuses them
+pub record IsDatabaseOf (a : Attributed) (bytes : List ℕ) : Type 0 where
+  pub read : database bytes ≡ Ok (event_content a (call_paths_of a))
+  pub shown : (table : ViewTable) (event : Option Event) → view_product table event bytes
+      ≡ shown_at event a.events (table_at table a)
 
 -- what a profile stores is the database of its run's samples
-pub record StoresProfile (elf input schedule : List ℕ) (period : ℕ) (whole : Product) : Type 0 where
+pub record StoresProfile (elf input schedule : List ℕ) (events : List EventPeriod) (whole : Product) : Type 0 where
   pub run : Profiled
-  pub profiled : profiled_of elf input schedule period ≡ Ok run
-  pub stored : IsDatabaseOf period run.attributed whole.stored
+  pub profiled : profiled_of elf input schedule events ≡ Ok run
+  pub stored : IsDatabaseOf run.attributed whole.stored
 
 -- what `prof` stores is the database of the measurement's samples
 pub record StoresSamples (elf bytes : List ℕ) (whole : Product) : Type 0 where
@@ -45,14 +56,14 @@ pub record StoresSamples (elf bytes : List ℕ) (whole : Product) : Type 0 where
   pub scopes : ProgramScopes
   pub found : program_scopes image ≡ Ok scopes
   pub samples : Attributed
-  pub taken : attributed scopes (length tables) (each_sample tables) ≡ Ok samples
-  pub stored : IsDatabaseOf head.period samples whole.stored
+  pub taken : attributed scopes (retired_every head.period) (length tables) (each_sample tables) ≡ Ok samples
+  pub stored : IsDatabaseOf samples whole.stored
 
 -- so it is of every profile that is accepted, of a program within its limit
 abbrev pub ProfilesStoreDatabases : Type 0
-ProfilesStoreDatabases = (elf input schedule : List ℕ) (period : ℕ) (whole : Product)
-    → IsBytes elf → length elf ≤ program_limit → 1 ≤ period → period ≤ most_period
-    → profile_of elf input schedule period ≡ Ok whole → StoresProfile elf input schedule period whole
+ProfilesStoreDatabases = (elf input schedule : List ℕ) (events : List EventPeriod) (whole : Product)
+    → IsBytes elf → length elf ≤ program_limit → AreEvents events → All (λ e. e.period ≤ most_period) events
+    → profile_of elf input schedule events ≡ Ok whole → StoresProfile elf input schedule events whole
 
 -- and of every `prof` that is accepted
 abbrev pub ProfsStoreDatabases : Type 0

@@ -9,27 +9,31 @@ use Rattle.rv_run.specs.Schedule.{Scheduled}
 use Rattle.rv_run.specs.State.{MachineState}
 use Rattle.run_report.specs.Report.{run_text}
 use Rattle.sample_clock.specs.Samples.{Paths}
+use Rattle.scope_types.specs.declared.event.EventPeriod.{EventPeriod}
 use Rattle.scope_types.specs.Distinct.{ColumnRaw}
 use Rattle.command_line.specs.declared.status.InputFault.{InputFault}
-use Rattle.hpc_top.specs.Samples.{sampled, few_samples}
+use Rattle.hpc_top.specs.Samples.{few_samples, run_columns, sampled}
 
--- what is measured of a run: its harts, its samples, and the machine at the end
+-- what is measured of a run: the events with their periods, its harts, its samples of all events, and the machine at the
+-- end
 pub record Measured : Type 0 where
+  pub events : List EventPeriod
   pub harts : ℕ
   pub samples : List ColumnRaw
   pub final : MachineState
 
 -- a run, unless it has too many samples, or these have too many frames
-unfoldable pub measured_run : Paths → ℕ → ℕ → Run → Result Measured InputFault
-measured_run path_of period harts run = do
-  samples ← few_samples harts (sampled path_of period run)
-  Ok (record { harts = harts; samples = samples; final = run.final })
+unfoldable pub measured_run : Paths → List EventPeriod → ℕ → Run → Result Measured InputFault
+measured_run path_of events harts run = do
+  samples ← few_samples (run_columns events harts) (sampled path_of events run)
+  Ok (record { events = events; harts = harts; samples = samples; final = run.final })
 
 -- the run of a program whose call frame information was read, under a schedule
-abbrev pub measured : ProgramImage → List FrameDescription → Scheduled → List ℕ → ℕ → Result Measured InputFault
-measured image described schedule input period =
-    measured_run (unwound_by (unwinding_of described image)) period schedule.harts (run_of image schedule input)
+abbrev pub measured : ProgramImage → List FrameDescription → Scheduled → List ℕ → List EventPeriod
+    → Result Measured InputFault
+measured image described schedule input events =
+    measured_run (unwound_by (unwinding_of described image)) events schedule.harts (run_of image schedule input)
 
 -- the lines on the run
-abbrev pub lines_of : ℕ → Measured → List ℕ
-lines_of period m = run_text period m.harts m.final m.samples
+abbrev pub lines_of : Measured → List ℕ
+lines_of m = run_text m.events m.harts m.final m.samples

@@ -14,11 +14,13 @@ use Rattle.command_line.specs.declared.status.InputFault.{InputFault}
 use Rattle.hpc_top.specs.declared.status.Made.{Made}
 use Rattle.hpc_top.specs.Made.{product_in}
 use Rattle.hpc_top.specs.Attribution.{Attributed}
+use Rattle.hpc_top.specs.Samples.{run_columns}
 use Rattle.hpc_top.specs.commands.Profile.{Profiled, product_from, product_of}
 
 -- the plan of samples: their distinct raw paths in chunks, expanded
 abbrev pub sample_plan : Attributed → Chunks
-sample_plan a = expanded (plan_of (distinct a.harts a.samples)) (call_path (found_at a.scopes))
+sample_plan a =
+    expanded (plan_of (distinct (run_columns a.events a.harts) a.samples)) (call_path (found_at a.scopes))
 
 -- the plan of a run is that of its samples
 abbrev pub run_plan : Profiled → Chunks
@@ -35,16 +37,16 @@ abbrev pub merging : (Crew → Type 0) → Bool → ℕ → Merging
 merging gives whole workers = record { gives = gives; whole = whole; workers = workers }
 
 -- what is made of a run: its crew is one that may come, its stripes are those of the run's plan and fit it, and
--- database and table are those of the pieces that the stripes name. Where crews merge all, the stripes name every
+-- database and tables are those of the pieces that the stripes name. Where crews merge all, the stripes name every
 -- piece, and it is the product of the run
-pub record IsMadeOf (merging : Merging) (period : ℕ) (p : Profiled) (made : Made) : Type 0 where
+pub record IsMadeOf (merging : Merging) (p : Profiled) (made : Made) : Type 0 where
   pub gives : merging.gives made.crew
   pub plan : IsOfPlan (run_plan p) made.crew
-  pub product : product_in made ≡ product_from period p (named_paths made.crew.stripes)
+  pub product : product_in made ≡ product_from p (named_paths made.crew.stripes)
   pub crew : IsTrue merging.whole → IsWhole (run_plan p) merging.workers made.crew
-  pub whole : IsTrue merging.whole → product_in made ≡ product_of period p
+  pub whole : IsTrue merging.whole → product_in made ≡ product_of p
 
 -- what is made of a run that is profiled, or its refusal, unless memory ran out
-abbrev pub MakesBy : Merging → ℕ → Result Made (Fail InputFault) → Result Profiled InputFault → Type 0
-MakesBy merging period (Ok made) run = (p : Profiled) × (run ≡ Ok p) × IsMadeOf merging period p made
-MakesBy merging period (Err fail) run = FailsBy fail run
+abbrev pub MakesBy : Merging → Result Made (Fail InputFault) → Result Profiled InputFault → Type 0
+MakesBy merging (Ok made) run = (p : Profiled) × (run ≡ Ok p) × IsMadeOf merging p made
+MakesBy merging (Err fail) run = FailsBy fail run

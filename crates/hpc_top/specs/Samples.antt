@@ -1,9 +1,11 @@
 -- The samples of a run as call paths (HPCToolkit's manual, "Call Path Profiling").
-use Rattle.std.specs.Prelude.{ℕ, List, map, length, take, Result, Ok, Err, if◌then◌else◌, nat_lt}
+use Rattle.std.specs.Prelude.{ℕ, ◌*◌, List, map, length, take, Result, Ok, Err, if◌then◌else◌, nat_lt}
 use Rattle.prof_bytes.specs.Outcome.{◌>>=◌}
+use Rattle.scope_types.specs.declared.event.EventPeriod.{EventPeriod}
 use Rattle.scope_types.specs.declared.frame.Counted.{Counted}
 use Rattle.scope_types.specs.declared.scope.Scope.{Scope}
 use Rattle.scope_types.specs.CallPaths.{ColumnPath}
+use Rattle.scope_types.specs.Columns.{column_of}
 use Rattle.scope_types.specs.Raw.{Raw}
 use Rattle.scope_types.specs.Distinct.{ColumnRaw, distinct, frames_in, scopes_in}
 use Rattle.scope_types.specs.Limits.{most_samples, most_frames_in_all, most_scopes_in_all}
@@ -29,21 +31,28 @@ within_frames tables = if nat_lt most_frames_in_all (frames_in tables) then Err 
 abbrev pub within_samples : List ColumnRaw → Result (List ColumnRaw) InputFault
 within_samples all = if nat_lt most_samples (length all) then Err TooManySamples else Ok all
 
--- the first of two limits that the run meets: too many frames of distinct raw paths, or too many samples
+-- the first of two limits that the run meets: too many frames of the distinct raw paths of all columns, or too many
+-- samples
 abbrev pub few_samples : ℕ → List ColumnRaw → Result (List ColumnRaw) InputFault
-few_samples harts all = do
-  _ ← within_frames (distinct harts (take most_samples all))
+few_samples columns all = do
+  _ ← within_frames (distinct columns (take most_samples all))
   within_samples all
 
 -- the third limit: too many scopes of the call paths of distinct raw paths
 abbrev pub within_scopes : (Raw → List Scope) → ℕ → List ColumnRaw → Result (List ColumnRaw) InputFault
-within_scopes expand harts all =
-    if nat_lt most_scopes_in_all (scopes_in expand (distinct harts all)) then Err TooManyScopes else Ok all
+within_scopes expand columns all =
+    if nat_lt most_scopes_in_all (scopes_in expand (distinct columns all)) then Err TooManyScopes else Ok all
 
--- a sample as its column, which is its hart's, and its raw path
-abbrev pub column_raw : Sample → ColumnRaw
-column_raw s = record { column = s.hart; raw = s.path }
+-- ---- the samples of a run
 
--- the samples of a run
-abbrev pub sampled : Paths → ℕ → Run → List ColumnRaw
-sampled path_of period run = map column_raw (samples path_of period run.instants)
+-- a sample of so many events, as its column, which is that of its hart and of its event, and its raw path
+abbrev pub column_raw : ℕ → Sample → ColumnRaw
+column_raw events s = record { column = column_of events s.hart s.event; raw = s.path }
+
+-- the samples of a run, of all events
+abbrev pub sampled : Paths → List EventPeriod → Run → List ColumnRaw
+sampled path_of events run = map (column_raw (length events)) (samples path_of events run.instants)
+
+-- how many columns a run has: one for each hart and event
+abbrev pub run_columns : List EventPeriod → ℕ → ℕ
+run_columns events harts = harts * length events

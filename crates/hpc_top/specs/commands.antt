@@ -19,9 +19,9 @@ pub mod Drill
 
 -- what a command makes of the contents of its files, which come in the order in which they are wanted
 abbrev pub makes : Command → List (List ℕ) → Result Product InputFault
-makes (command.Profile period workers) texts = profile_makes period texts
+makes (command.Profile events workers) texts = profile_makes events texts
 makes (command.Run period) texts = run_makes period texts
 makes (command.Prof workers) texts = prof_makes texts
 makes command.Struct texts = struct_makes texts
-makes (command.View table) texts = view_makes table texts
+makes (command.View table event) texts = view_makes table event texts
 makes (command.Drill number workers) texts = drill_makes number texts

@@ -3,6 +3,7 @@ pub mod Stop
 pub mod Steps
 pub mod Collecting
 pub mod Counting
+pub mod EventTexts
 pub mod Merging
 pub mod Products
 pub mod Profiling

@@ -1,24 +1,31 @@
-//! The database and the table of a content at once: each needs the content alone, so a thread of its own makes each,
-//! and touches its pages first. Before that both find the length of the table, which takes longer than the database.
-ghost use Rattle.std.specs.Prelude.{◌≡◌, ◌-◌, ◌^◌, ◌++◌, length, min, IfOk};
-ghost use Rattle.prof_db.specs.Spelling.{database_spelling};
+//! The database and the tables of a content. Where retired instructions are the only event, each needs the content of
+//! this event alone, so a thread of its own makes each, and touches its pages first. Before that both find the length of
+//! the table, which takes longer than the database.
+ghost use Rattle.std.specs.Prelude.{◌≡◌, ◌<◌, ◌-◌, ◌^◌, ◌++◌, ◌∷◌, [], true, length, min, IfOk};
+ghost use Rattle.prof_db.specs.Spelling.{database_spelling, events_spelling};
 ghost use Rattle.prof_db.specs.Writable.{IsWritable};
-ghost use Rattle.tree_types.specs.OfContent.{IsProfile, content_table};
+ghost use Rattle.scope_types.specs.Events.{is_retired_alone};
+ghost use Rattle.tree_types.specs.OfContent.{IsEventProfile, IsProfile, content_of_event, content_table};
+ghost use Rattle.hpc_top.specs.private.EventTexts.{tables_in};
 
+use crate::events::is_retired_alone;
 use crate::table::report;
 use prof_bytes::{Memory, Text};
-use prof_db::{profiles_are_writable, write_db};
+use prof_db::{
+    event_content, event_profiles_are_writable, into_content, profiles_are_writable, write_db,
+    write_events,
+};
 use rayon::join;
 use std::alloc::Global;
 use std::thread::Threads;
-use tree_types::Content;
+use tree_types::{Content, EventContent, one_event_is_the_whole};
 use view_tables::{top_down_length, top_down_length_by_two};
 
 /// With fewer nodes than these one thread makes both: another takes longer to start.
 const WORTH_A_THREAD: usize = 8_192;
 
-/// The content's database, and its table after the lines, of many nodes by a thread each.
-pub fn database_and_report<R: Threads + Sync>(
+/// The database of the content of retired instructions, and its table after the lines, of many nodes by a thread each.
+fn database_and_report<R: Threads + Sync>(
     rt: &R,
     alloc: Global,
     lines: Text,
@@ -48,14 +55,66 @@ pub fn database_and_report<R: Threads + Sync>(
     Ok((database?, report?))
 }
 
-/// The content's database and its table.
-pub fn database_and_table<R: Threads + Sync>(
+/// The text, the line of an event, and the table of the event at this place.
+fn with_table(
+    alloc: Global,
+    text: Text,
+    line: &Text,
+    content: &EventContent,
+    place: u32,
+) -> Result<Text, Memory>
+    requires profile { IsEventProfile content.now }
+    requires run { length content.now.runs ≡ 1 }
+    requires place { place < length content.now.events }
+    ensures { IfOk result (λ whole. whole ≡ text ++ line.now ++ content_table (content_of_event content.now place)) }
+{
+    let event = event_content(alloc, content, place)?;
+    let mut bytes = text.into_vec();
+    bytes.extend_from_slice(line.bytes())?;
+    report(Text::from_vec(bytes), top_down_length(&event), &event)
+}
+
+/// The text, and the table of each event after its line.
+fn with_tables(
+    alloc: Global,
+    text: Text,
+    lines: &[Text],
+    content: &EventContent,
+) -> Result<Text, Memory>
+    requires profile { IsEventProfile content.now }
+    requires run { length content.now.runs ≡ 1 }
+    requires lines { length lines.now ≡ length content.now.events }
+    ensures { IfOk result (λ whole. whole ≡ text ++ tables_in lines.now content.now) }
+{
+    let mut whole = text;
+    for place in 0..lines.len() {
+        whole = with_table(alloc, whole, &lines[place], content, place as u32)?;
+    }
+    Ok(whole)
+}
+
+/// The content's database, and after the text the table of each event with its line, which is empty where retired
+/// instructions are the only event.
+pub fn database_and_tables<R: Threads + Sync>(
     rt: &R,
     alloc: Global,
-    content: &Content,
+    text: Text,
+    lines: &[Text],
+    content: EventContent,
 ) -> Result<(Text, Text), Memory>
-    requires { IsProfile content.now }
-    ensures { IfOk result (λ both. (both.0 ≡ database_spelling content.now) × (both.1 ≡ content_table content.now)) }
+    requires profile { IsEventProfile content }
+    requires run { length content.runs ≡ 1 }
+    requires lines { length lines.now ≡ length content.events }
+    requires alone { is_retired_alone content.events ≡ true → lines.now ≡ [] ∷ [] }
+    ensures { IfOk result (λ both.
+        (both.0 ≡ events_spelling content) × (both.1 ≡ text ++ tables_in lines.now content)) }
 {
-    database_and_report(rt, alloc, Text::from_vec(Vec::new(alloc)), content)
+    event_profiles_are_writable();
+    one_event_is_the_whole();
+    if is_retired_alone(content.events.items()) {
+        let content = into_content(content);
+        return database_and_report(rt, alloc, text, &content);
+    }
+    let database = write_events(alloc, &content)?;
+    Ok((database, with_tables(alloc, text, lines, &content)?))
 }

@@ -20,20 +20,22 @@ use std::thread::Threads;
 /// What a command makes of the contents of its files, which come in the order in which it reads them.
 pub fn make<R: Threads + Sync + AllocGlobal, G: Gate>(
     rt: &R,
-    command: Command,
+    command: &Command,
     texts: &[Text],
     gate: &G,
 ) -> Result<Product, Fail<InputFault>>
-    requires numbers { IsCommand command }
-    requires files { AreWithin texts.now (kinds_read command) }
-    ensures { Gives (λ p. p) result (makes command texts.now) }
+    requires numbers { IsCommand command.now }
+    requires files { AreWithin texts.now (kinds_read command.now) }
+    ensures { Gives (λ p. p) result (makes command.now texts.now) }
 {
     match command {
-        Command::Profile { period, workers } => profile::make(rt, period, workers, texts, gate),
-        Command::Run { period } => run::make(rt.alloc(), period, texts),
-        Command::Prof { workers } => prof::make(rt, workers, texts, gate),
+        Command::Profile { periods, workers } => {
+            profile::make(rt, periods.items(), *workers, texts, gate)
+        }
+        Command::Run { period } => run::make(rt.alloc(), *period, texts),
+        Command::Prof { workers } => prof::make(rt, *workers, texts, gate),
         Command::Struct => structure::make(rt.alloc(), texts),
-        Command::View { table } => view::make(rt.alloc(), table, texts),
-        Command::Drill { number, workers } => drill::make(rt, number, workers, texts, gate),
+        Command::View { table, event } => view::make(rt.alloc(), *table, *event, texts),
+        Command::Drill { number, workers } => drill::make(rt, *number, *workers, texts, gate),
     }
 }

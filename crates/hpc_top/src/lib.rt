@@ -12,6 +12,7 @@ mod collect;
 mod commands;
 mod counting;
 mod drill_laws;
+mod events;
 mod laws;
 mod merged;
 mod prepare;

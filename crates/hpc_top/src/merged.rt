@@ -1,44 +1,54 @@
 //! Counted samples, merged by a crew.
-ghost use Rattle.std.specs.Prelude.{◌≡◌, ◌<◌, ◌≤◌, All, IfOk, List, length};
+ghost use Rattle.std.specs.Prelude.{◌≡◌, ◌<◌, ◌≤◌, ℕ, [], ◌∷◌, All, IfOk, List, length};
 ghost use Rattle.prof_bytes.specs.Outcome.{Gives};
 ghost use Rattle.scope_find.specs.Found.{found_at, naming_of};
+ghost use Rattle.scope_types.specs.Columns.{paths_of_event};
 ghost use Rattle.scope_types.specs.Distinct.{ColumnRaw, distinct};
+ghost use Rattle.scope_types.specs.Events.{AreEvents};
 ghost use Rattle.scope_types.specs.Expansion.{call_path};
+ghost use Rattle.scope_types.specs.Limits.{most_harts, most_workers};
 ghost use Rattle.stripe_table.specs.Ends.{named_paths};
-ghost use Rattle.thread_cct.specs.Plan.{FitsExpansion, IsMergeable};
-ghost use Rattle.tree_types.specs.Database.{content_of};
-ghost use Rattle.tree_types.specs.OfContent.{IsProfile, content_table};
+ghost use Rattle.thread_cct.specs.Plan.{FitsExpansion};
+ghost use Rattle.tree_join.specs.Join.{AreJoinable};
+ghost use Rattle.tree_types.specs.Database.{event_content_of, period_at};
+ghost use Rattle.tree_types.specs.OfContent.{IsEventProfile, content_of_event, content_table};
 ghost use Rattle.tree_types.specs.TopDown.{top_down};
 ghost use Rattle.hpc_top.specs.Attribution.{attributed};
 ghost use Rattle.hpc_top.specs.Merged.{merging};
+ghost use Rattle.hpc_top.specs.Samples.{run_columns};
 ghost use Rattle.hpc_top.specs.private.Merging.{Merges, few_planned};
 
+use crate::events::{copied_events, periods_of};
 use command_line::InputFault;
 use merge_crew::{Crew, Crews};
 use metric_sums::sums;
 use prof_bytes::{Fail, Listed, Memory};
 use scope_expand::{Expander, call_paths_have_roots};
 use scope_find::Finder;
+use scope_types::EventPeriod;
 use sparse_planes::both_planes;
 use std::alloc::Global;
 use std::thread::Threads;
 use stripe_table::StripeSet;
 use thread_cct::{Ccts, Plan, plans_can_be_merged};
-use tree_join::{join_stripes, stripes_hold_the_samples};
-use tree_types::{Content, content_holds_its_paths, paths_make_a_profile, trees_hold_paths};
+use tree_join::{join_stripes, stripes_hold_the_samples, stripes_hold_their_pieces};
+use tree_types::{
+    EventContent, event_contents_have_parts, event_paths_make_a_profile, trees_hold_paths,
+};
 
-/// How samples are merged: the crews, the number of workers, and the period in retired instructions.
+/// How samples are merged: the crews, the number of workers, the events with their periods, and the number of harts.
 #[derive(Clone, Copy)]
 pub struct Merge<'a, C> {
     pub crews: &'a C,
     pub workers: u32,
-    pub period: u32,
+    pub events: &'a [EventPeriod],
+    pub harts: u32,
 }
 
 /// What a merge leaves: the content of the pieces that the crew's stripes name, and what the crew has done.
 #[derive(Drop)]
 pub struct Merged {
-    pub content: Content,
+    pub content: EventContent,
     pub crew: Crew,
 }
 
@@ -58,35 +68,54 @@ fn plan_of<'a>(
     }
 }
 
+/// The harts of each run, of which there is one.
+fn one_run(alloc: Global, harts: u32) -> Result<Vec<u32>, Memory>
+    ensures { IfOk result (λ runs. runs.items ≡ harts ∷ []) }
+{
+    let mut runs = Vec::new(alloc);
+    runs.push(harts)?;
+    Ok(runs)
+}
+
 /// The content of the pieces that the stripes name.
 fn content_named<R: Threads + Sync>(
     rt: &R,
     alloc: Global,
-    period: u32,
+    events: &[EventPeriod],
     harts: u32,
+    columns: u32,
     expander: &Expander<'_>,
     stripes: &StripeSet,
-) -> Result<Content, Memory>
-    requires period { 0 < period }
-    requires plan { IsMergeable stripes.now.view.plan harts }
-    ensures content { IfOk result (λ content.
-        content ≡ content_of period harts (naming_of expander.now) (named_paths stripes.now)) }
-    ensures profile { IfOk result (λ content. IsProfile content) }
-    ensures table { IfOk result (λ content.
-        content_table content ≡ top_down period harts (naming_of expander.now) (named_paths stripes.now)) }
+) -> Result<EventContent, Memory>
+    requires events { AreEvents events.now }
+    requires harts { (0 < harts) × (harts ≤ most_harts) }
+    requires columns { columns ≡ run_columns events.now harts }
+    requires held { AreJoinable stripes.now columns }
+    ensures content { IfOk result (λ content. content
+        ≡ event_content_of events.now (harts ∷ []) (naming_of expander.now) (named_paths stripes.now)) }
+    ensures profile { IfOk result (λ content. IsEventProfile content) }
+    ensures run { IfOk result (λ content. length content.runs ≡ 1) }
+    ensures events { IfOk result (λ content. content.events ≡ events.now) }
+    ensures tables { (place : ℕ) → place < length events.now → IfOk result (λ content.
+        content_table (content_of_event content place)
+        ≡ top_down (period_at events.now place) harts (naming_of expander.now)
+        (paths_of_event (length events.now) place (named_paths stripes.now))) }
 {
-    content_holds_its_paths();
-    paths_make_a_profile();
+    event_contents_have_parts();
+    event_paths_make_a_profile();
     trees_hold_paths();
-    let tree = join_stripes(alloc, stripes, harts)?;
+    let own_events = copied_events(alloc, events)?;
+    let runs = one_run(alloc, harts)?;
+    let tree = join_stripes(alloc, stripes, columns)?;
     let names = expander.names(&tree)?;
-    let values = sums(alloc, &tree, period)?;
+    let periods = periods_of(alloc, events)?;
+    let values = sums(alloc, &tree, periods.as_slice())?;
     let planes = both_planes(rt, alloc, &values)?;
     drop(values);
     let (profiles, contexts) = planes;
-    Ok(Content {
-        period,
-        columns: tree.columns(),
+    Ok(EventContent {
+        events: Listed::of(own_events),
+        runs: Listed::of(runs),
         names,
         nodes: Listed::of(tree.into_nodes()),
         profiles,
@@ -102,18 +131,22 @@ pub fn merge_samples<R: Threads + Sync, C: Crews>(
     finder: &Finder<'_>,
     ccts: &Ccts,
 ) -> Result<Merged, Fail<InputFault>>
-    requires period { 0 < merge.now.period }
-    requires workers { (1 ≤ merge.now.workers) × (merge.now.workers ≤ 16) }
+    requires events { AreEvents merge.now.events.now }
+    requires harts { (0 < merge.now.harts) × (merge.now.harts ≤ most_harts) }
+    requires columns { length ccts.now ≡ run_columns merge.now.events.now merge.now.harts }
+    requires workers { (1 ≤ merge.now.workers) × (merge.now.workers ≤ most_workers) }
     ensures merged { (samples : List ColumnRaw) → ccts.now ≡ distinct (length ccts.now) samples
         → All (λ s. s.column < length ccts.now) samples
-        → Merges (merging (C.gives merge.now.crews.now) (C.whole merge.now.crews.now) merge.now.workers)
-        merge.now.period result
-        (attributed finder.now (length ccts.now) samples) }
-    ensures profile { IfOk result (λ merged. IsProfile merged.content) }
+        → Merges (merging (C.gives merge.now.crews.now) (C.whole merge.now.crews.now) merge.now.workers) result
+        (attributed finder.now merge.now.events.now merge.now.harts samples) }
+    ensures profile { IfOk result (λ merged. IsEventProfile merged.content) }
+    ensures run { IfOk result (λ merged. length merged.content.runs ≡ 1) }
+    ensures events { IfOk result (λ merged. merged.content.events ≡ merge.now.events.now) }
 {
     call_paths_have_roots();
     plans_can_be_merged();
     stripes_hold_the_samples();
+    stripes_hold_their_pieces();
     let expander = Expander::of(alloc, finder);
     let plan = plan_of(alloc, ccts, &expander)?;
     let crew = merge
@@ -122,7 +155,8 @@ pub fn merge_samples<R: Threads + Sync, C: Crews>(
     let content = content_named(
         rt,
         alloc,
-        merge.period,
+        merge.events,
+        merge.harts,
         plan.columns(),
         &expander,
         &crew.stripes,

@@ -21,5 +21,5 @@ pub fn prepare<R: Threads + Sync + AllocGlobal, F: Shelf, G: Gate>(
     ensures { Prepares (view_request request.now) (F.shown shelf.old) (F.shown shelf.new) result }
 {
     let texts = fetch_all(rt.alloc(), shelf, request.reads.items())?;
-    Ok(make(rt, request.command, texts.items(), gate)?)
+    Ok(make(rt, &request.command, texts.items(), gate)?)
 }

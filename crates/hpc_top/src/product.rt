@@ -1,5 +1,5 @@
 //! What a command makes.
-ghost use Rattle.std.specs.Prelude.{◌≡◌};
+ghost use Rattle.std.specs.Prelude.{◌≡◌, []};
 ghost use Rattle.hpc_top.specs.Made.{product_in};
 ghost use Rattle.hpc_top.specs.Product.{no_product, only_text};
 
@@ -14,12 +14,19 @@ pub struct Product {
     pub text: Text,
 }
 
+/// A text of no bytes.
+pub fn no_text(alloc: Global) -> Text
+    ensures { result ≡ [] }
+{
+    Text::from_vec(Vec::new(alloc))
+}
+
 /// A text that is put; nothing is stored.
 pub fn text_alone(alloc: Global, text: Text) -> Product
     ensures { result ≡ only_text text }
 {
     Product {
-        stored: Text::from_vec(Vec::new(alloc)),
+        stored: no_text(alloc),
         text,
     }
 }
@@ -28,7 +35,7 @@ pub fn text_alone(alloc: Global, text: Text) -> Product
 pub fn nothing(alloc: Global) -> Product
     ensures { result ≡ no_product }
 {
-    text_alone(alloc, Text::from_vec(Vec::new(alloc)))
+    text_alone(alloc, no_text(alloc))
 }
 
 /// What was made, to be stored and put.

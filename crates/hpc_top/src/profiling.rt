@@ -1,6 +1,8 @@
 //! A run that is profiled: its samples counted and merged, before `profile` makes its report of it, or `drill` its lines.
-ghost use Rattle.std.specs.Prelude.{◌≡◌, ◌<◌, ◌≤◌, Ok};
+ghost use Rattle.std.specs.Prelude.{◌≡◌, ◌≤◌, Ok};
 ghost use Rattle.cfi_table.specs.Frames.{descriptions};
+ghost use Rattle.scope_types.specs.Events.{AreEvents};
+ghost use Rattle.scope_types.specs.Limits.{most_workers};
 ghost use Rattle.hpc_top.specs.Job.{IsJob};
 ghost use Rattle.hpc_top.specs.Measured.{Measured};
 ghost use Rattle.hpc_top.specs.Merged.{merging};
@@ -41,11 +43,13 @@ fn merge_run<'a, R: Threads + Sync, C: Crews>(
     finder: &Finder<'_>,
     run: CountedRun<'a>,
 ) -> Result<ProfiledRun<'a>, Fail<InputFault>>
-    requires period { 0 < merge.now.period }
-    requires workers { (1 ≤ merge.now.workers) × (merge.now.workers ≤ 16) }
-    ensures { (m : Measured) → IsCount m run.entry
+    requires events { AreEvents merge.now.events.now }
+    requires harts { merge.now.harts ≡ run.harts }
+    requires workers { (1 ≤ merge.now.workers) × (merge.now.workers ≤ most_workers) }
+    requires counted { (m : Measured) × IsCount merge.now.events.now m run }
+    ensures { (m : Measured) → IsCount merge.now.events.now m run.entry
         → Profiles (merging (C.gives merge.now.crews.now) (C.whole merge.now.crews.now) merge.now.workers)
-        merge.now.period result (profiled finder.now m) }
+        merge.now.events.now result (profiled finder.now m) }
 {
     let merged = merge_samples(rt, alloc, merge, finder, &run.ccts)?;
     Ok(ProfiledRun { run, merged })
@@ -63,15 +67,17 @@ fn merge_scopes<'a, R: Threads + Sync, C: Crews>(
     run: CountedRun<'a>,
 ) -> Result<ProfiledRun<'a>, Fail<InputFault>>
     requires job { IsJob job.now }
-    ensures { (m : Measured) → IsCount m run.entry
-        → Profiles (merging (C.gives crews.now) (C.whole crews.now) job.now.workers) job.now.period
+    requires counted { (m : Measured) × IsCount job.now.periods.now m run }
+    ensures { (m : Measured) → IsCount job.now.periods.now m run.entry
+        → Profiles (merging (C.gives crews.now) (C.whole crews.now) job.now.workers) job.now.periods.now
         result (profiled (record { structure = structure.now; lines = lines.now; image = image.now }) m) }
 {
     let finder = Finder::of(alloc, structure, lines, image)?;
     let merge = Merge {
         crews,
         workers: job.workers,
-        period: job.period,
+        events: job.periods,
+        harts: run.harts,
     };
     merge_run(rt, alloc, &merge, &finder, run)
 }
@@ -89,13 +95,13 @@ fn profile_program<'a, R: Threads + Sync, C: Crews>(
     structure: &Structure<'_>,
 ) -> Result<ProfiledRun<'a>, Fail<InputFault>>
     requires job { IsJob job.now }
-    ensures { Profiles (merging (C.gives crews.now) (C.whole crews.now) job.now.workers) job.now.period
+    ensures { Profiles (merging (C.gives crews.now) (C.whole crews.now) job.now.workers) job.now.periods.now
         result
         (profiled_program image.now (descriptions table.now)
         (record { structure = structure.now; lines = lines.now; image = image.now }) schedule job.now.input.now
-        job.now.period) }
+        job.now.periods.now) }
 {
-    let counted = count_run(alloc, image, table, schedule, job.input, job.period)?;
+    let counted = count_run(alloc, image, table, schedule, job.input, job.periods)?;
     merge_scopes(rt, alloc, job, crews, image, lines, structure, counted)
 }
 
@@ -113,9 +119,9 @@ fn profile_image<'a, R: Threads + Sync, C: Crews>(
     requires schedule { scheduled job.now.schedule.now ≡ Ok schedule }
     requires program { program job.now.elf.now ≡ Ok image.now }
     requires job { IsJob job.now }
-    ensures { Profiles (merging (C.gives crews.now) (C.whole crews.now) job.now.workers) job.now.period
+    ensures { Profiles (merging (C.gives crews.now) (C.whole crews.now) job.now.workers) job.now.periods.now
         result
-        (profiled_of job.now.elf.now job.now.input.now job.now.schedule.now job.now.period) }
+        (profiled_of job.now.elf.now job.now.input.now job.now.schedule.now job.now.periods.now) }
 {
     let table = frames_of(alloc, image)?;
     let (lines, structure) = scopes_of(alloc, image)?;
@@ -133,9 +139,9 @@ pub fn profile_run<'a, R: Threads + Sync, C: Crews>(
     crews: &C,
 ) -> Result<ProfiledRun<'a>, Fail<InputFault>>
     requires job { IsJob job.now }
-    ensures { Profiles (merging (C.gives crews.now) (C.whole crews.now) job.now.workers) job.now.period
+    ensures { Profiles (merging (C.gives crews.now) (C.whole crews.now) job.now.workers) job.now.periods.now
         result
-        (profiled_of job.now.elf.now job.now.input.now job.now.schedule.now job.now.period) }
+        (profiled_of job.now.elf.now job.now.input.now job.now.schedule.now job.now.periods.now) }
 {
     let schedule = schedule_of(alloc, job.schedule)?;
     let image = program_of(alloc, job.elf)?;

@@ -6,18 +6,21 @@ use cfi_unwind::paths_have_frames;
 use measure_file::{
     measurements_count_samples, read_is_written, samples_are_measured, written_is_read,
 };
-use prof_db::call_paths_are_stored;
+use prof_db::{call_paths_are_stored, event_call_paths_are_stored};
+use sample_clock::samples_are_of_instructions;
 use thread_cct::samples_are_counted;
 use tree_types::{counts_decide, nodes_are_few};
 
 /// Each database that an accepted `profile` or `prof` stores is read as the content of its samples' call paths, and
-/// `view` puts the tables of these paths: the limits of a job keep it within those of the format.
+/// `view` puts the tables of each event's paths: the limits of a job keep it within those of the format.
 pub fn databases_are_of_samples()
     ensures profile { ProfilesStoreDatabases }
     ensures prof { ProfsStoreDatabases }
 {
     views_are_of_call_paths();
     call_paths_are_stored();
+    event_call_paths_are_stored();
+    samples_are_of_instructions();
     paths_have_frames();
     read_is_written();
     measurements_count_samples();
@@ -32,6 +35,7 @@ pub fn measurements_are_of_runs()
     ensures { RunsStoreMeasurements }
 {
     paths_have_frames();
+    samples_are_of_instructions();
     samples_are_measured();
     written_is_read();
 }

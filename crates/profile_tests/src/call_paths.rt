@@ -8,6 +8,7 @@ use crate::runs::{RUN, Run, other_run};
 use hpc_top::{Job, Made, profile};
 use merge_crew::{Crews, WorkCrew};
 use prof_devices::OpenGate;
+use scope_types::{Event, EventPeriod};
 use std::test::Fail;
 use std::thread::Threads;
 
@@ -171,11 +172,15 @@ pub(crate) fn made<C: Crews>(
     if elf.len() > 1000 || schedule.len() > 1000 || period == 0 {
         return Err("not a job".into());
     }
+    let periods = [EventPeriod {
+        event: Event::Retired,
+        period,
+    }];
     let job = Job {
         elf,
         input: b"",
         schedule,
-        period,
+        periods: &periods,
         workers: 1,
     };
     Ok(profile(rt, &job, crews).ok().ok_or("refused")?)

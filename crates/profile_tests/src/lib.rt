@@ -24,6 +24,8 @@ mod drills;
 #[cfg(test)]
 mod edges;
 #[cfg(test)]
+mod events;
+#[cfg(test)]
 mod failures;
 #[cfg(test)]
 mod made_databases;

@@ -49,7 +49,7 @@ usage: hpc profile ELF INPUT SCHEDULE PERIOD WORKERS DB | run ELF INPUT SCHEDULE
 | prof ELF MEASURE WORKERS DB | struct ELF | view DB top|callers|flat [EVENT] | drill NUMBER WORKERS\n";
 
 /// Words that are no command.
-static INVALID: [(&str, &str); 39] = [
+static INVALID: [(&str, &str); 40] = [
     ("no words", ""),
     ("a view that is none", "view d sideways"),
     ("a run without a file for the measurement", "run p i s 5"),
@@ -102,6 +102,7 @@ static INVALID: [(&str, &str); 39] = [
     ("a table with a name that is none", "view d tops"),
     ("a file without a name", "view  top"),
     ("two tables", "view d top flat"),
+    ("a view of an event that is none", "view d top cycles"),
     ("two events", "view d top retired loads"),
     ("a view of no file", "view"),
 ];

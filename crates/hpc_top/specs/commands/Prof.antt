@@ -1,11 +1,14 @@
--- `prof` as a function of its files: the database and the table of a measurement, or the first refusal.
+-- `prof` as a function of its files: the database and the table of a measurement, whose event is retired, or the first
+-- refusal.
 use Rattle.std.specs.Prelude.{ℕ, ◌==◌, ◌&&◌, List, [], ◌∷◌, length, Result, Ok, Err, if◌then◌else◌}
 use Rattle.prof_bytes.specs.Outcome.{◌>>=◌}
 use Rattle.elf_image.specs.Image.{ProgramImage}
 use Rattle.measure_file.specs.declared.head.MeasureHead.{MeasureHead}
 use Rattle.measure_file.specs.Reading.{measurement_in}
+use Rattle.scope_types.specs.declared.event.EventPeriod.{EventPeriod}
 use Rattle.scope_types.specs.declared.frame.Counted.{Counted}
 use Rattle.scope_types.specs.Distinct.{each_sample}
+use Rattle.scope_types.specs.Events.{retired_every}
 use Rattle.command_line.specs.declared.status.InputFault.{InputFault}
 use Rattle.command_line.specs.declared.status.InputFault.TheVariants.{Measurement, WrongProgram}
 use Rattle.hpc_top.specs.Attribution.{attributed, attribution_of}
@@ -24,13 +27,13 @@ of_program image head =
     if head.length == length image.file && head.entry == image.entry then Ok head
     else Err (WrongProgram head.length head.entry (length image.file) image.entry)
 
--- the product of a program and the samples of a measurement, each raw path as often as it is counted; or the first
--- refusal of the program's debug information
-abbrev pub attributed_code : ProgramImage → ℕ → List (List Counted) → Result Product InputFault
-attributed_code image period tables = do
+-- the product of a program and the samples of these events that a measurement counts, each raw path as often as it is
+-- counted; or the first refusal of the program's debug information
+abbrev pub attributed_code : ProgramImage → List EventPeriod → ℕ → List (List Counted) → Result Product InputFault
+attributed_code image events harts tables = do
   scopes ← program_scopes image
-  a ← attributed scopes (length tables) (each_sample tables)
-  Ok (attribution_of period a)
+  a ← attributed scopes events harts (each_sample tables)
+  Ok (attribution_of a)
 
 -- the product of a program and a measurement, or the first of their refusals
 unfoldable pub prof_product : List ℕ → List ℕ → Result Product InputFault
@@ -38,7 +41,7 @@ prof_product elf bytes = do
   (head, tables) ← measurement bytes
   image ← program elf
   head ← of_program image head
-  attributed_code image head.period tables
+  attributed_code image (retired_every head.period) (length tables) tables
 
 -- the same of the contents of the command's files
 abbrev pub prof_makes : List (List ℕ) → Result Product InputFault

@@ -5,6 +5,7 @@ use Rattle.elf_image.specs.Image.{ProgramImage}
 use Rattle.measure_file.specs.declared.head.MeasureHead.{MeasureHead}
 use Rattle.measure_file.specs.Spelling.{measurement_spelling}
 use Rattle.scope_types.specs.Distinct.{distinct}
+use Rattle.scope_types.specs.Events.{retired_every}
 use Rattle.command_line.specs.declared.status.InputFault.{InputFault}
 use Rattle.hpc_top.specs.Measured.{Measured, lines_of, measured}
 use Rattle.hpc_top.specs.Product.{Product, no_product}
@@ -18,16 +19,17 @@ head_of image period = record { length = length image.file; entry = image.entry;
 abbrev pub measurement_of : ProgramImage → ℕ → Measured → Product
 measurement_of image period m = record {
   stored = measurement_spelling (head_of image period) (distinct m.harts m.samples);
-  text = lines_of period m;
+  text = lines_of m;
 }
 
--- the product of a program, an input and a schedule, or the first of their refusals
+-- the product of a program, an input and a schedule, of which retired instructions are sampled, or the first of their
+-- refusals
 unfoldable pub run_product : List ℕ → List ℕ → List ℕ → ℕ → Result Product InputFault
 run_product elf input schedule period = do
   schedule ← scheduled schedule
   image ← program elf
   described ← frame_information image
-  m ← measured image described schedule input period
+  m ← measured image described schedule input (retired_every period)
   Ok (measurement_of image period m)
 
 -- the same of the contents of the command's files

@@ -1,24 +1,24 @@
 -- Counted samples as they are planned and merged.
-use Rattle.std.specs.Prelude.{◌≡◌, ℕ, IsTrue, List, Result, Ok, Err, if◌then◌else◌, nat_lt}
+use Rattle.std.specs.Prelude.{◌≡◌, ℕ, IsTrue, List, slice_get, Some, Result, Ok, Err, if◌then◌else◌, nat_lt}
 use Rattle.prof_bytes.specs.declared.fail.Fail.{Fail}
 use Rattle.prof_bytes.specs.Outcome.{FailsBy}
-use Rattle.scope_find.specs.Found.{naming_of}
+use Rattle.scope_types.specs.declared.event.EventPeriod.{EventPeriod}
 use Rattle.scope_types.specs.declared.frame.Counted.{Counted}
 use Rattle.scope_types.specs.declared.scope.Scope.{Scope}
 use Rattle.scope_types.specs.Alike.{Alike}
+use Rattle.scope_types.specs.CallPaths.{ColumnPath}
 use Rattle.scope_types.specs.Distinct.{scopes_in}
 use Rattle.scope_types.specs.Limits.{most_scopes_in_all}
 use Rattle.scope_types.specs.Raw.{Raw}
 use Rattle.stripe_table.specs.Ends.{named_paths}
 use Rattle.thread_cct.specs.Plan.{Planned, plan_of}
-use Rattle.tree_types.specs.Database.{content_of}
-use Rattle.tree_types.specs.OfContent.{content_table}
-use Rattle.tree_types.specs.TopDown.{top_down}
+use Rattle.tree_types.specs.declared.content.EventContent.{EventContent}
+use Rattle.tree_types.specs.OfContent.{content_of_event, content_table}
 use Rattle.merge_crew.specs.Merged.{IsOfPlan, IsWhole}
 use Rattle.hpc_top.specs.declared.merged.Merged.{Merged}
 use Rattle.command_line.specs.declared.status.InputFault.{InputFault}
 use Rattle.command_line.specs.declared.status.InputFault.TheVariants.{TooManyScopes}
-use Rattle.hpc_top.specs.Attribution.{Attributed, call_paths_of}
+use Rattle.hpc_top.specs.Attribution.{Attributed, call_paths_of, event_content, table_of_event}
 use Rattle.hpc_top.specs.Merged.{Merging, sample_plan}
 
 -- the plan of counted samples, unless their call paths have too many scopes
@@ -26,17 +26,22 @@ abbrev pub few_planned : (Raw → List Scope) → List (List Counted) → Result
 few_planned expand tables =
     if nat_lt most_scopes_in_all (scopes_in expand tables) then Err TooManyScopes else Ok (plan_of tables)
 
+-- each table of a content's events is that of these call paths
+abbrev pub HasTables : EventContent → Attributed → List ColumnPath → Type 0
+HasTables c a paths = (place : ℕ) (event : EventPeriod) → slice_get a.events place ≡ Some event
+    → content_table (content_of_event c place) ≡ table_of_event a paths (place, event)
+
 -- what is merged of samples: the crew is one that may come, its stripes are those of the samples' plan, and the content
 -- is that of the pieces that they name. Where crews merge all, these are the call paths of all samples
-pub record IsMergeOf (by : Merging) (period : ℕ) (a : Attributed) (m : Merged) : Type 0 where
+pub record IsMergeOf (by : Merging) (a : Attributed) (m : Merged) : Type 0 where
   pub gives : by.gives m.crew
   pub plan : IsOfPlan (sample_plan a) m.crew
-  pub content : m.content ≡ content_of period a.harts (naming_of a.scopes) (named_paths m.crew.stripes)
-  pub table : content_table m.content ≡ top_down period a.harts (naming_of a.scopes) (named_paths m.crew.stripes)
+  pub content : m.content ≡ event_content a (named_paths m.crew.stripes)
+  pub tables : HasTables m.content a (named_paths m.crew.stripes)
   pub crew : IsTrue by.whole → IsWhole (sample_plan a) by.workers m.crew
   pub paths : IsTrue by.whole → Alike (named_paths m.crew.stripes) (call_paths_of a)
 
 -- what is merged of samples that are attributed, or their refusal, unless memory ran out
-abbrev pub Merges : Merging → ℕ → Result Merged (Fail InputFault) → Result Attributed InputFault → Type 0
-Merges by period (Ok m) wanted = (a : Attributed) × (wanted ≡ Ok a) × IsMergeOf by period a m
-Merges by period (Err fail) wanted = FailsBy fail wanted
+abbrev pub Merges : Merging → Result Merged (Fail InputFault) → Result Attributed InputFault → Type 0
+Merges by (Ok m) wanted = (a : Attributed) × (wanted ≡ Ok a) × IsMergeOf by a m
+Merges by (Err fail) wanted = FailsBy fail wanted

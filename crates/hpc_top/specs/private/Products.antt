@@ -1,17 +1,23 @@
--- What `run` and `prof` make of samples, or of the refusal in their place.
+-- What `run`, `prof` and `drill` make of samples, or of the refusal in their place.
 use Rattle.std.specs.Prelude.{ℕ, Result, Ok}
 use Rattle.prof_bytes.specs.Outcome.{◌>>=◌}
 use Rattle.elf_image.specs.Image.{ProgramImage}
 use Rattle.command_line.specs.declared.status.InputFault.{InputFault}
 use Rattle.hpc_top.specs.Attribution.{Attributed, attribution_of}
 use Rattle.hpc_top.specs.Measured.{Measured}
-use Rattle.hpc_top.specs.Product.{Product}
+use Rattle.hpc_top.specs.Product.{Product, only_text}
+use Rattle.hpc_top.specs.commands.Drill.{drill_text}
+use Rattle.hpc_top.specs.commands.Profile.{Profiled}
 use Rattle.hpc_top.specs.commands.Run.{measurement_of}
 
 -- the measurement of a measured run
 abbrev pub measurement_or : ProgramImage → ℕ → Result Measured InputFault → Result Product InputFault
 measurement_or image period wanted = wanted >>= λ m. Ok (measurement_of image period m)
 
--- the database and the table of attributed samples
-abbrev pub attribution_or : ℕ → Result Attributed InputFault → Result Product InputFault
-attribution_or period wanted = wanted >>= λ a. Ok (attribution_of period a)
+-- the database and the tables of attributed samples
+abbrev pub attribution_or : Result Attributed InputFault → Result Product InputFault
+attribution_or wanted = wanted >>= λ a. Ok (attribution_of a)
+
+-- the lines of a drill on a run that is profiled
+abbrev pub drill_or : ℕ → Result Profiled InputFault → Result Product InputFault
+drill_or number wanted = wanted >>= λ p. Ok (only_text (drill_text number p))

@@ -1,42 +1,48 @@
 //! `drill`: the guest of a number, profiled, in four lines.
-ghost use Rattle.std.specs.Prelude.{◌≡◌, ◌≤◌, IfOk, IsTrue, length};
+ghost use Rattle.std.specs.Prelude.{◌≡◌, IfOk, IsTrue, List, length};
 ghost use Rattle.prof_bytes.specs.Outcome.{Gives};
-ghost use Rattle.prof_db.specs.Spelling.{database_spelling};
+ghost use Rattle.command_line.specs.Request.{AreWorkers};
+ghost use Rattle.prof_db.specs.Spelling.{events_spelling};
 ghost use Rattle.run_report.specs.Drill.{drill_lines, retired_by};
-ghost use Rattle.tree_types.specs.OfContent.{IsProfile};
+ghost use Rattle.scope_types.specs.declared.event.EventPeriod.{EventPeriod};
+ghost use Rattle.tree_types.specs.OfContent.{IsEventProfile};
 ghost use Rattle.hpc_top.specs.Job.{IsJob};
 ghost use Rattle.hpc_top.specs.Measured.{Measured};
-ghost use Rattle.hpc_top.specs.commands.Drill.{drill_makes, drill_product, drilled};
+ghost use Rattle.hpc_top.specs.commands.Drill.{drill_makes, drill_product};
+ghost use Rattle.hpc_top.specs.commands.Profile.{profiled_of};
 ghost use Rattle.hpc_top.specs.private.Counting.{IsCount};
-ghost use Rattle.hpc_top.specs.private.Profiling.{files_of};
+ghost use Rattle.hpc_top.specs.private.Products.{drill_or};
 
 use crate::commands::profile::Job;
+use crate::events::retired_every;
 use crate::product::{Product, nothing, text_alone};
 use crate::profiling::{ProfiledRun, profile_run};
 use command_line::InputFault;
 use guest_gen::guest;
 use merge_crew::{Crews, WorkCrew};
 use prof_bytes::{Fail, Memory, Text};
-use prof_db::{profiles_are_writable, write_db};
+use prof_db::{event_profiles_are_writable, write_events};
 use prof_devices::Gate;
 use run_report::{all_retired, all_samples, drill_lines};
 use std::alloc::Global;
 use std::thread::Threads;
-use tree_types::counts_decide;
+use tree_types::{counts_decide, event_content_holds_its_paths, event_paths_are_paths};
 
 /// The four lines on what was profiled, whose database is made for its length and its fold.
 fn lines(alloc: Global, number: u32, profiled: &ProfiledRun<'_>) -> Result<Text, Memory>
-    requires profile { IsProfile profiled.now.merged.content }
-    requires counted { (m : Measured) × IsCount m profiled.now.run }
-    ensures { (m : Measured) → IsCount m profiled.now.run → IfOk result (λ text. text
+    requires profile { IsEventProfile profiled.now.merged.content }
+    requires run { length profiled.now.merged.content.runs ≡ 1 }
+    requires counted { (events : List EventPeriod) × (m : Measured) × IsCount events m profiled.now.run }
+    ensures { (events : List EventPeriod) (m : Measured) → IsCount events m profiled.now.run
+        → IfOk result (λ text. text
         ≡ drill_lines number (retired_by m.final) (length m.samples) (length profiled.now.merged.content.nodes)
-        (database_spelling profiled.now.merged.content)) }
+        (events_spelling profiled.now.merged.content)) }
 {
-    profiles_are_writable();
+    event_profiles_are_writable();
     let content = &profiled.merged.content;
-    let database = write_db(alloc, content)?;
+    let database = write_events(alloc, content)?;
     let ccts = &profiled.run.ccts;
-    let retired = all_retired(ccts.columns(), profiled.run.samples.machine());
+    let retired = all_retired(profiled.run.harts, profiled.run.samples.machine());
     let nodes = content.nodes.items().len() as u64;
     drill_lines(
         alloc,
@@ -58,9 +64,12 @@ fn drill_job<R: Threads + Sync, C: Crews>(
 ) -> Result<Product, Fail<InputFault>>
     requires job { IsJob job.now }
     requires whole { IsTrue (C.whole crews.now) }
-    ensures { Gives (λ p. p) result (drilled number (files_of job.now)) }
+    ensures { Gives (λ p. p) result (drill_or number
+        (profiled_of job.now.elf.now job.now.input.now job.now.schedule.now job.now.periods.now)) }
 {
     counts_decide();
+    event_content_holds_its_paths();
+    event_paths_are_paths();
     let profiled = profile_run(rt, alloc, job, crews)?;
     let text = lines(alloc, number, &profiled)?;
     Ok(text_alone(alloc, text))
@@ -74,16 +83,17 @@ fn drill_guest<R: Threads + Sync + AllocGlobal, C: Crews>(
     workers: u32,
     crews: &C,
 ) -> Result<Product, Fail<InputFault>>
-    requires workers { (1 ≤ workers) × (workers ≤ 16) }
+    requires workers { AreWorkers workers }
     requires whole { IsTrue (C.whole crews.now) }
     ensures { Gives (λ p. p) result (drill_product number) }
 {
     let files = guest(rt.alloc(), number)?;
+    let periods = [retired_every(files.period)];
     let job = Job {
         elf: files.elf.bytes(),
         input: files.input.bytes(),
         schedule: files.schedule.bytes(),
-        period: files.period,
+        periods: &periods,
         workers,
     };
     drill_job(rt, rt.alloc(), number, &job, crews)
@@ -97,7 +107,7 @@ pub fn make<R: Threads + Sync + AllocGlobal, G: Gate>(
     texts: &[Text],
     gate: &G,
 ) -> Result<Product, Fail<InputFault>>
-    requires workers { (1 ≤ workers) × (workers ≤ 16) }
+    requires workers { AreWorkers workers }
     ensures { Gives (λ p. p) result (drill_makes number texts.now) }
 {
     let [] = texts else {

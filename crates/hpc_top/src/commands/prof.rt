@@ -4,16 +4,20 @@ ghost use Rattle.command_line.specs.declared.kind.FileKind.TheVariants as kinds;
 ghost use Rattle.command_line.specs.Request.{AreWorkers};
 ghost use Rattle.measure_file.specs.Measurable.{IsMeasurable, AreMeasured};
 ghost use Rattle.prof_bytes.specs.Outcome.{Gives};
-ghost use Rattle.scope_types.specs.Distinct.{ColumnRaw, distinct, each_sample};
+ghost use Rattle.scope_types.specs.Distinct.{ColumnRaw, distinct, each_sample, samples_in};
+ghost use Rattle.scope_types.specs.Events.{AreEvents};
+ghost use Rattle.scope_types.specs.Limits.{most_harts};
 ghost use Rattle.hpc_top.specs.Attribution.{attributed};
+ghost use Rattle.hpc_top.specs.Samples.{run_columns};
 ghost use Rattle.hpc_top.specs.Verdict.{program_limit};
 ghost use Rattle.hpc_top.specs.commands.Prof.{attributed_code, measurement, of_program, prof_makes, prof_product};
 ghost use Rattle.hpc_top.specs.private.Products.{attribution_or};
 ghost use Rattle.hpc_top.specs.private.Steps.{AreWithin};
 
-use crate::both::database_and_table;
-use crate::merged::{Merge, merge_samples};
-use crate::product::{Product, nothing};
+use crate::both::database_and_tables;
+use crate::events::{event_lines, retired_every};
+use crate::merged::{Merge, Merged, merge_samples};
+use crate::product::{Product, no_text, nothing};
 use crate::program::program_of;
 use crate::refusal::as_input;
 use crate::scopes::scopes_of;
@@ -29,7 +33,7 @@ use scope_find::Finder;
 use std::alloc::Global;
 use std::thread::Threads;
 use thread_cct::Ccts;
-use tree_types::counts_decide;
+use tree_types::{counts_decide, event_content_holds_its_paths, event_paths_are_paths};
 
 /// The measurement, or the first fault of its file.
 #[tactic(auto, using(crate::proofs::Faults::input_steps))]
@@ -70,17 +74,23 @@ fn attribute_counted<R: Threads + Sync, C: Crews>(
     finder: &Finder<'_>,
     ccts: &Ccts,
 ) -> Result<Product, Fail<InputFault>>
-    requires period { 0 < merge.now.period }
+    requires events { AreEvents merge.now.events.now }
+    requires harts { (0 < merge.now.harts) × (merge.now.harts ≤ most_harts) }
+    requires columns { length ccts.now ≡ run_columns merge.now.events.now merge.now.harts }
     requires workers { AreWorkers merge.now.workers }
     requires whole { IsTrue (C.whole merge.now.crews.now) }
     ensures { (samples : List ColumnRaw) → ccts.now ≡ distinct (length ccts.now) samples
-        → All (λ s. s.column < length ccts.now) samples
+        → All (λ s. s.column < length ccts.now) samples → samples_in ccts.now ≡ length samples
         → Gives (λ p. p) result
-        (attribution_or merge.now.period (attributed finder.now (length ccts.now) samples)) }
+        (attribution_or (attributed finder.now merge.now.events.now merge.now.harts samples)) }
 {
     counts_decide();
+    event_content_holds_its_paths();
+    event_paths_are_paths();
     let merged = merge_samples(rt, alloc, merge, finder, ccts)?;
-    let (stored, text) = database_and_table(rt, alloc, &merged.content)?;
+    let lines = event_lines(alloc, merge.events, ccts)?;
+    let Merged { content, .. } = merged;
+    let (stored, text) = database_and_tables(rt, alloc, no_text(alloc), lines.as_slice(), content)?;
     Ok(Product { stored, text })
 }
 
@@ -94,14 +104,16 @@ fn attribute_scopes<R: Threads + Sync, C: Crews>(
     structure: &Structure<'_>,
     ccts: &Ccts,
 ) -> Result<Product, Fail<InputFault>>
-    requires period { 0 < merge.now.period }
+    requires events { AreEvents merge.now.events.now }
+    requires harts { (0 < merge.now.harts) × (merge.now.harts ≤ most_harts) }
+    requires columns { length ccts.now ≡ run_columns merge.now.events.now merge.now.harts }
     requires workers { AreWorkers merge.now.workers }
     requires measured { AreMeasured ccts.now }
     requires whole { IsTrue (C.whole merge.now.crews.now) }
     ensures { Gives (λ p. p) result
-        (attribution_or merge.now.period
-        (attributed (record { structure = structure.now; lines = lines.now; image = image.now }) (length ccts.now)
-        (each_sample ccts.now))) }
+        (attribution_or
+        (attributed (record { structure = structure.now; lines = lines.now; image = image.now })
+        merge.now.events.now merge.now.harts (each_sample ccts.now))) }
 {
     measurements_count_samples();
     let finder = Finder::of(alloc, structure, lines, image)?;
@@ -116,11 +128,14 @@ fn attribute_code<R: Threads + Sync, C: Crews>(
     image: &Image<'_>,
     ccts: &Ccts,
 ) -> Result<Product, Fail<InputFault>>
-    requires period { 0 < merge.now.period }
+    requires events { AreEvents merge.now.events.now }
+    requires harts { (0 < merge.now.harts) × (merge.now.harts ≤ most_harts) }
+    requires columns { length ccts.now ≡ run_columns merge.now.events.now merge.now.harts }
     requires workers { AreWorkers merge.now.workers }
     requires measured { AreMeasured ccts.now }
     requires whole { IsTrue (C.whole merge.now.crews.now) }
-    ensures { Gives (λ p. p) result (attributed_code image.now merge.now.period ccts.now) }
+    ensures { Gives (λ p. p) result
+        (attributed_code image.now merge.now.events.now merge.now.harts ccts.now) }
 {
     let (lines, structure) = scopes_of(alloc, image)?;
     attribute_scopes(rt, alloc, merge, image, &lines, &structure, ccts)
@@ -144,10 +159,12 @@ fn attribute<R: Threads + Sync, C: Crews>(
     let (head, ccts) = measured(alloc, measurement)?;
     let image = program_of(alloc, elf)?;
     check_program(&image, &head)?;
+    let events = [retired_every(head.period)];
     let merge = Merge {
         crews,
         workers,
-        period: head.period,
+        events: &events,
+        harts: ccts.columns(),
     };
     attribute_code(rt, alloc, &merge, &image, &ccts)
 }

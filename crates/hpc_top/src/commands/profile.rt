@@ -1,11 +1,12 @@
 //! `profile`: the database and the report of a program's run.
-ghost use Rattle.std.specs.Prelude.{◌<◌, [], ◌∷◌, IfOk, IsTrue};
+ghost use Rattle.std.specs.Prelude.{◌≡◌, [], ◌∷◌, IfOk, IsTrue, length};
 ghost use Rattle.command_line.specs.declared.kind.FileKind.TheVariants as kinds;
 ghost use Rattle.command_line.specs.Request.{AreWorkers};
 ghost use Rattle.prof_bytes.specs.Outcome.{Gives};
-ghost use Rattle.tree_types.specs.OfContent.{IsProfile};
+ghost use Rattle.scope_types.specs.Events.{AreEvents};
 ghost use Rattle.hpc_top.specs.Job.{IsJob};
 ghost use Rattle.hpc_top.specs.Made.{product_in};
+ghost use Rattle.tree_types.specs.OfContent.{IsEventProfile};
 ghost use Rattle.hpc_top.specs.Measured.{Measured};
 ghost use Rattle.hpc_top.specs.Merged.{MakesBy, merging};
 ghost use Rattle.hpc_top.specs.commands.Profile.{profile_makes, profile_of, profiled_of};
@@ -13,8 +14,9 @@ ghost use Rattle.hpc_top.specs.private.Counting.{IsCount};
 ghost use Rattle.hpc_top.specs.private.Profiling.{IsMadeBy};
 ghost use Rattle.hpc_top.specs.private.Steps.{AreWithin};
 
-use crate::both::database_and_report;
+use crate::both::database_and_tables;
 use crate::counting::lines_of;
+use crate::events::event_lines;
 use crate::merged::Merged;
 use crate::product::{Product, nothing, product_of};
 use crate::profiling::{ProfiledRun, profile_run};
@@ -23,18 +25,19 @@ use command_line::InputFault;
 use merge_crew::{Crews, WorkCrew};
 use prof_bytes::{Fail, Memory, Text};
 use prof_devices::Gate;
+use scope_types::EventPeriod;
 use std::alloc::Global;
 use std::thread::Threads;
-use tree_types::counts_decide;
+use tree_types::{counts_decide, event_content_holds_its_paths, event_paths_are_paths};
 
-/// A program, its input and schedule, the period in retired instructions, and the number of workers
-/// that merge.
+/// A program, its input and schedule, the events that are sampled, ascending, each with its period of at least 1, and
+/// the number of workers that merge.
 #[derive(Clone, Copy, Debug)]
 pub struct Job<'a> {
     pub elf: &'a [u8],
     pub input: &'a [u8],
     pub schedule: &'a [u8],
-    pub period: u32,
+    pub periods: &'a [EventPeriod],
     pub workers: u32,
 }
 
@@ -42,19 +45,23 @@ pub struct Job<'a> {
 fn made_of<R: Threads + Sync>(
     rt: &R,
     alloc: Global,
-    period: u32,
+    events: &[EventPeriod],
     profiled: ProfiledRun<'_>,
 ) -> Result<Made, Memory>
-    requires profile { IsProfile profiled.merged.content }
-    requires counted { (m : Measured) × IsCount m profiled.run }
-    ensures { (m : Measured) → IsCount m profiled.entry.run
-        → IfOk result (λ made. IsMadeBy period m profiled.entry.merged made) }
+    requires events { AreEvents events.now }
+    requires profile { IsEventProfile profiled.merged.content }
+    requires run { length profiled.merged.content.runs ≡ 1 }
+    requires own { profiled.merged.content.events ≡ events.now }
+    requires counted { (m : Measured) × IsCount events.now m profiled.run }
+    ensures { (m : Measured) → IsCount events.now m profiled.entry.run
+        → IfOk result (λ made. IsMadeBy m profiled.entry.merged made) }
 {
     let ProfiledRun { run, merged } = profiled;
-    let lines = lines_of(alloc, period, &run)?;
+    let text = lines_of(alloc, events, &run)?;
+    let lines = event_lines(alloc, events, &run.ccts)?;
     drop(run);
-    let (database, report) = database_and_report(rt, alloc, lines, &merged.content)?;
-    let Merged { crew, .. } = merged;
+    let Merged { content, crew } = merged;
+    let (database, report) = database_and_tables(rt, alloc, text, lines.as_slice(), content)?;
     Ok(Made {
         database,
         report,
@@ -63,7 +70,7 @@ fn made_of<R: Threads + Sync>(
 }
 
 /// The database and the report of a job and the crew that merged it, or the first refusal of its files. The crew is one
-/// that `crews` gives, its stripes are those of the job's plan, and the database and the report's table are of the
+/// that `crews` gives, its stripes are those of the job's plan, and the database and the report's tables are of the
 /// pieces that they name. Where `crews` merges all, database and report are the job's.
 pub fn profile<R: Threads + Sync + AllocGlobal, C: Crews>(
     rt: &R,
@@ -71,29 +78,30 @@ pub fn profile<R: Threads + Sync + AllocGlobal, C: Crews>(
     crews: &C,
 ) -> Result<Made, Fail<InputFault>>
     requires job { IsJob job.now }
-    ensures merged { MakesBy (merging (C.gives crews.now) (C.whole crews.now) job.now.workers) job.now.period
-        result
-        (profiled_of job.now.elf.now job.now.input.now job.now.schedule.now job.now.period) }
+    ensures merged { MakesBy (merging (C.gives crews.now) (C.whole crews.now) job.now.workers) result
+        (profiled_of job.now.elf.now job.now.input.now job.now.schedule.now job.now.periods.now) }
     ensures whole { IsTrue (C.whole crews.now) → Gives product_in result
-        (profile_of job.now.elf.now job.now.input.now job.now.schedule.now job.now.period) }
+        (profile_of job.now.elf.now job.now.input.now job.now.schedule.now job.now.periods.now) }
 {
     counts_decide();
+    event_content_holds_its_paths();
+    event_paths_are_paths();
     let profiled = profile_run(rt, rt.alloc(), job, crews)?;
-    Ok(made_of(rt, rt.alloc(), job.period, profiled)?)
+    Ok(made_of(rt, rt.alloc(), job.periods, profiled)?)
 }
 
 /// What `profile` makes of its files.
 pub fn make<R: Threads + Sync + AllocGlobal, G: Gate>(
     rt: &R,
-    period: u32,
+    periods: &[EventPeriod],
     workers: u32,
     texts: &[Text],
     gate: &G,
 ) -> Result<Product, Fail<InputFault>>
     requires files { AreWithin texts.now (kinds.Program ∷ kinds.Input ∷ kinds.Schedule ∷ []) }
-    requires period { 0 < period }
+    requires events { AreEvents periods.now }
     requires workers { AreWorkers workers }
-    ensures { Gives (λ p. p) result (profile_makes period texts.now) }
+    ensures { Gives (λ p. p) result (profile_makes periods.now texts.now) }
 {
     let [elf, input, schedule] = texts else {
         return Ok(nothing(rt.alloc()));
@@ -102,7 +110,7 @@ pub fn make<R: Threads + Sync + AllocGlobal, G: Gate>(
         elf: elf.bytes(),
         input: input.bytes(),
         schedule: schedule.bytes(),
-        period,
+        periods,
         workers,
     };
     Ok(product_of(profile(rt, &job, &WorkCrew::of(gate))?))

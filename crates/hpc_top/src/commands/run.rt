@@ -3,6 +3,7 @@ ghost use Rattle.std.specs.Prelude.{◌≡◌, ◌≤◌, ◌<◌, [], ◌∷◌
 ghost use Rattle.cfi_table.specs.Frames.{descriptions};
 ghost use Rattle.command_line.specs.declared.kind.FileKind.TheVariants as kinds;
 ghost use Rattle.prof_bytes.specs.Outcome.{Gives};
+ghost use Rattle.scope_types.specs.Events.{retired_every};
 ghost use Rattle.hpc_top.specs.Measured.{Measured, measured};
 ghost use Rattle.hpc_top.specs.Verdict.{program_limit, schedule_limit};
 ghost use Rattle.hpc_top.specs.commands.Run.{measurement_of, run_makes, run_product};
@@ -11,6 +12,7 @@ ghost use Rattle.hpc_top.specs.private.Products.{measurement_or};
 ghost use Rattle.hpc_top.specs.private.Steps.{AreWithin};
 
 use crate::counting::{CountedRun, count_run, lines_of};
+use crate::events::retired_every;
 use crate::product::{Product, nothing};
 use crate::program::{frames_of, program_of, schedule_of};
 use cfi_table::FrameTable;
@@ -29,8 +31,9 @@ fn measurement_of(
     run: &CountedRun<'_>,
 ) -> Result<Product, Memory>
     requires period { 0 < period }
-    requires counted { (m : Measured) × IsCount m run.now }
-    ensures { (m : Measured) → IsCount m run.now → IfOk result (λ made. made ≡ measurement_of image.now period m) }
+    requires counted { (m : Measured) × IsCount (retired_every period) m run.now }
+    ensures { (m : Measured) → IsCount (retired_every period) m run.now
+        → IfOk result (λ made. made ≡ measurement_of image.now period m) }
 {
     let head = MeasureHead {
         length: image.length(),
@@ -38,7 +41,8 @@ fn measurement_of(
         period,
     };
     let stored = write_measure(alloc, &head, &run.ccts)?;
-    let text = lines_of(alloc, period, run)?;
+    let events = [retired_every(period)];
+    let text = lines_of(alloc, &events, run)?;
     Ok(Product { stored, text })
 }
 
@@ -53,9 +57,11 @@ fn measure_program(
 ) -> Result<Product, Fail<InputFault>>
     requires { 0 < period }
     ensures { Gives (λ p. p) result
-        (measurement_or image.now period (measured image.now (descriptions table.now) schedule input.now period)) }
+        (measurement_or image.now period
+        (measured image.now (descriptions table.now) schedule input.now (retired_every period))) }
 {
-    let counted = count_run(alloc, image, table, schedule, input, period)?;
+    let events = [retired_every(period)];
+    let counted = count_run(alloc, image, table, schedule, input, &events)?;
     Ok(measurement_of(alloc, image, period, &counted)?)
 }
 

@@ -7,5 +7,5 @@ use Rattle.hpc_top.proofs.profiling.merge_scopes.Goals as goal
 
 pub returns : goal.returns
 returns g c m count =
-    subst (λ (p : ProgramScopes). Profiles (merging (g.C.Crews.gives c.args.crews.now) (g.C.Crews.whole c.args.crews.now) c.args.job.now.workers) c.args.job.now.period c.merge_run.result (profiled p m)) c.in_ok-finder.ensures
+    subst (λ (p : ProgramScopes). Profiles (merging (g.C.Crews.gives c.args.crews.now) (g.C.Crews.whole c.args.crews.now) c.args.job.now.workers) c.args.job.now.periods.now c.merge_run.result (profiled p m)) c.in_ok-finder.ensures
     (c.merge_run.ensures m count)

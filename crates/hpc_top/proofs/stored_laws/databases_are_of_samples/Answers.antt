@@ -5,18 +5,18 @@ pub returns-clause-profile : goal.returns-clause-profile
 returns-clause-profile c =
     profiles_stored (record {
       shown = c.views_are_of_call_paths.ensures.stored;
-      read = c.call_paths_are_stored.ensures.read;
+      read = c.event_call_paths_are_stored.ensures.read;
       call_paths = c.call_paths_are_stored.ensures.paths;
       samples_alike = c.samples_are_counted.ensures.alike;
       nodes_alike = c.counts_decide.ensures.nodes;
       nodes_few = c.nodes_are_few.ensures;
-    }) c.paths_have_frames.ensures.frames c.paths_have_frames.ensures.words
+    }) c.samples_are_of_instructions.ensures c.paths_have_frames.ensures.frames c.paths_have_frames.ensures.words
 
 pub returns-clause-prof : goal.returns-clause-prof
 returns-clause-prof c =
     profs_stored (record {
       shown = c.views_are_of_call_paths.ensures.stored;
-      read = c.call_paths_are_stored.ensures.read;
+      read = c.event_call_paths_are_stored.ensures.read;
       call_paths = c.call_paths_are_stored.ensures.paths;
       samples_alike = c.samples_are_counted.ensures.alike;
       nodes_alike = c.counts_decide.ensures.nodes;
