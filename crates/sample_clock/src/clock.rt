@@ -154,7 +154,7 @@ impl<'a> Samples<'a> {
             return Ok(false);
         };
         if !moment.retired {
-            return Ok(false);
+            return Ok(moment.retired);
         }
         let hart = coming.hart as usize;
         self.next[hart] = next_after(self.retired, coming.ordinal, self.next[hart]);
@@ -274,9 +274,9 @@ impl<'a> Samples<'a> {
     }
 
     /// The next sample; `None` exactly where the run has ended and none is left. An instruction that is sampled for
-    /// two events has two, one after the other. `TooManySamples` comes exactly at the 1,048,577th sample, and again from
-    /// then on; the machine is then after that sample's instruction. After `Memory` it is before the instruction for
-    /// which none was found, and no sample is lost.
+    /// two events has two, one after the other. `TooManySamples` comes exactly at the 1,048,577th sample, and again
+    /// from then on; the machine is then after that sample's instruction. After `Memory` it is before the instruction
+    /// for which none was found, and no sample is lost.
     pub fn next<U: Unwind>(&mut self, unwinder: &U) -> Result<Option<Sample>, Fail<TooManySamples>>
         ensures answer { AnswersNext (U.path_of unwinder.now) result self.old self.new }
         ensures reached { Reaches (U.path_of unwinder.now) result self.old self.new }

@@ -24,7 +24,8 @@ pub(crate) struct Coming {
 /// copied for the second.
 pub(crate) fn samples_of(coming: &Coming, path: RawPath) -> Result<(Sample, Option<Sample>), Memory>
     requires { places_of coming.now.is_retired_due coming.now.place ≢ [] }
-    ensures { IfOk result (λ samples. coming_samples coming.now path ≡ samples.0 ∷ option_to_list samples.1) }
+    ensures { IfOk result (λ samples.
+        coming_samples coming.now path ≡ samples.0 ∷ option_to_list samples.1) }
 {
     let (hart, ordinal) = (coming.hart, coming.ordinal);
     let place = coming.place.unwrap_or(0);

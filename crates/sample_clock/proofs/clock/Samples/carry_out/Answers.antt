@@ -1,4 +1,4 @@
-use Rattle.std.proofs.Common.{◌≡◌, ℕ, false, true, Option, get_or, slice_set, sym, ap, subst, ◌∙◌, ◌<◌, length, arith}
+use Rattle.std.proofs.Common.{◌≡◌, ℕ, Bool, false, true, Option, get_or, slice_set, sym, ap, subst, ◌∙◌, ◌<◌, length, arith}
 use Rattle.std.specs.Prelude.{option_to_list}
 use Rattle.std.proofs.lemmas.Bool.{not-false, not-true}
 use Rattle.std.proofs.lemmas.List.{get_or_default}
@@ -24,13 +24,14 @@ invariant_of-self-then-not-moment c = (
 
 pub returns-then-not-moment-clause-ok : goal.returns-then-not-moment-clause-ok
 returns-then-not-moment-clause-ok c =
-    subst (λ (s : Sampling). CarriedOut c.args.coming.now false s (sampling c.next.new.self c.self.inside.events.items c.self.inside.full c.self.inside.left (option_to_list c.self.inside.pending) c.self.inside.met)) c.self.view_is
+    subst (λ (b : Bool). CarriedOut c.args.coming.now b c.args.self.now (sampling c.next.new.self c.self.inside.events.items c.self.inside.full c.self.inside.left (option_to_list c.self.inside.pending) c.self.inside.met)) (sym (not-true c.in-Some.moment.retired c.if-not-moment.true))
+    (subst (λ (s : Sampling). CarriedOut c.args.coming.now false s (sampling c.next.new.self c.self.inside.events.items c.self.inside.full c.self.inside.left (option_to_list c.self.inside.pending) c.self.inside.met)) c.self.view_is
     (carried-unretired c.self.inside.machine c.next.new.self c.self.inside.events.items c.self.inside.retired c.self.inside.is_alone c.self.inside.full c.self.inside.next c.self.inside.left c.self.invariant.0
     (option_to_list c.self.inside.pending) c.self.inside.met c.args.coming.now
     (subst (IsComing c.args.coming.now) (sym c.self.view_is) c.requires) c.in-Some.moment
     (subst (λ (m : Option Moment). Went m c.self.inside.machine c.next.new.self) c.in-Some.is c.in_ok-moment.ensures.ok)
     (subst (λ (m : Option Moment). CountsBy m c.self.inside.machine.state c.next.new.self.state) c.in-Some.is c.in_ok-moment.ensures.counts)
-    (not-true c.in-Some.moment.retired c.if-not-moment.true))
+    (not-true c.in-Some.moment.retired c.if-not-moment.true)))
 
 module _ (c : goal.After-left_after) where
   coming : IsComing c.args.coming.now (sampling c.self.inside.machine c.self.inside.events.items c.self.inside.full c.self.inside.left (option_to_list c.self.inside.pending) c.self.inside.met)
