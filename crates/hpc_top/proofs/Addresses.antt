@@ -1,5 +1,5 @@
 -- The addresses of a run's instructions have 32 bits.
-use Rattle.std.proofs.Common.{◌≡◌, ℕ, zero, suc, ◌+◌, ◌*◌, ◌/◌, ◌%◌, ◌^◌, ◌<◌, ◌≤◌, ◌==◌, ◌||◌, Bool, true, false, not, cond, nat_lt, int_lt, List, [], ◌∷◌, length, map, filter, get_or, take, min, slice_set, All, Option, Some, None, option_map, sym, subst, arith}
+use Rattle.std.proofs.Common.{◌≡◌, ℕ, zero, suc, ◌+◌, ◌*◌, ◌/◌, ◌%◌, ◌^◌, ◌<◌, ◌≤◌, ◌==◌, ◌||◌, Bool, true, false, not, cond, nat_lt, int_lt, List, [], ◌∷◌, length, map, take, min, slice_set, All, Option, Some, None, option_map, sym, subst, arith}
 use Rattle.std.specs.List.{AllByRecursion}
 use Rattle.std.proofs.lemmas.List.Elements.{All-append, All-cons, All-contains, All-map, All-weaker}
 use Rattle.std.proofs.Math.Nat.{mul-le-mul_right}

@@ -1,5 +1,5 @@
 -- The content of retired instructions alone, which is written in the format's first version.
-use Rattle.std.proofs.Common.{◌≡◌, ℕ, ◌+◌, ◌==◌, Bool, true, List, [], ◌∷◌, ◌++◌, length, sum, Result, Ok, Err, IfOk, refl, sym, ap, ◌∙◌, append-nil, arith}
+use Rattle.std.proofs.Common.{◌≡◌, ℕ, ◌+◌, ◌==◌, true, List, [], ◌∷◌, ◌++◌, length, sum, Result, Ok, Err, IfOk, refl, sym, ap, ◌∙◌, append-nil, arith}
 use Rattle.scope_types.specs.declared.event.Event.{Event}
 use Rattle.scope_types.specs.declared.event.Event.TheVariants.{Retired, Loads, Stores, Taken}
 use Rattle.scope_types.specs.declared.event.EventPeriod.{EventPeriod}

@@ -1,5 +1,5 @@
 -- The call paths of samples that are accepted are stored, and so their database is read as what it was made of.
-use Rattle.std.proofs.Common.{◌≡◌, ℕ, ◌+◌, ◌==◌, ◌&&◌, ◌<◌, ◌≤◌, ◌^◌, nat_lt, Bool, true, false, cond, List, [], ◌∷◌, length, get_or, map, replicate, All, Option, Result, Ok, Err, refl, sym, ap, subst, ◌∙◌, arith}
+use Rattle.std.proofs.Common.{◌≡◌, ℕ, ◌+◌, ◌==◌, ◌&&◌, ◌<◌, ◌≤◌, nat_lt, Bool, true, false, cond, List, [], ◌∷◌, length, get_or, map, replicate, All, Option, Result, Ok, Err, refl, sym, ap, subst, arith}
 use Rattle.std.specs.List.{enumerate_from, flat_map}
 use Rattle.std.proofs.lemmas.List.{length-map}
 use Rattle.std.proofs.lemmas.List.Elements.{All-append, All-cons, All-head, All-map, All-nil, All-replicate, All-tail, All-weaker}
@@ -37,7 +37,7 @@ use Rattle.command_line.specs.declared.status.InputFault.TheVariants.{Database, 
 use Rattle.hpc_top.specs.Attribution.{Attributed, attributed, attribution_of}
 use Rattle.hpc_top.specs.Databases.{IsDatabaseOf, ProfilesStoreDatabases, ProfsStoreDatabases}
 use Rattle.hpc_top.specs.Faulted.{faulted}
-use Rattle.hpc_top.specs.Product.{Product, only_text}
+use Rattle.hpc_top.specs.Product.{Product}
 use Rattle.hpc_top.specs.Program.{program}
 use Rattle.hpc_top.specs.Samples.{run_columns, sample_path}
 use Rattle.hpc_top.specs.Scopes.{program_scopes}

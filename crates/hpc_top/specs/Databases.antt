@@ -33,8 +33,8 @@ table_at table a place =
     table_of_paths table (period_at a.events place) a.harts (naming_of a.scopes)
     (paths_of_event (length a.events) place (call_paths_of a))
 
--- bytes that are read as the content of samples' call paths. `view` of them puts each table of each event's paths; of an
--- event that was not sampled it refuses them
+-- bytes that are read as the content of samples' call paths. `view` of them puts each table of each event's paths; it
+-- refuses an event that was not sampled
 pub record IsDatabaseOf (a : Attributed) (bytes : List ℕ) : Type 0 where
   pub read : database bytes ≡ Ok (event_content a (call_paths_of a))
   pub shown : (table : ViewTable) (event : Option Event) → view_product table event bytes

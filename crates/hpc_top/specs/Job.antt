@@ -5,8 +5,8 @@ use Rattle.scope_types.specs.Events.{AreEvents}
 use Rattle.scope_types.specs.Limits.{most_workers}
 use Rattle.hpc_top.specs.Verdict.{program_limit, schedule_limit}
 
--- the program and the schedule are within their limits, the events are such as a run may have, and there is at least one
--- worker and at most as many as a command may have
+-- the program and the schedule are within their limits, the events are such as a run may have, and there is at least
+-- one worker and at most as many as a command may have
 pub record IsJob (job : Job) : Type 0 where
   pub program : length job.elf.now ≤ program_limit
   pub schedule : length job.schedule.now ≤ schedule_limit

@@ -14,8 +14,8 @@ use Rattle.scope_types.specs.Distinct.{ColumnRaw}
 use Rattle.command_line.specs.declared.status.InputFault.{InputFault}
 use Rattle.hpc_top.specs.Samples.{few_samples, run_columns, sampled}
 
--- what is measured of a run: the events with their periods, its harts, its samples of all events, and the machine at the
--- end
+-- what is measured of a run: the events with their periods, its harts, its samples of all events, and the machine at
+-- the end
 pub record Measured : Type 0 where
   pub events : List EventPeriod
   pub harts : ℕ

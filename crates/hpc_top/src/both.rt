@@ -1,6 +1,6 @@
 //! The database and the tables of a content. Where retired instructions are the only event, each needs the content of
-//! this event alone, so a thread of its own makes each, and touches its pages first. Before that both find the length of
-//! the table, which takes longer than the database.
+//! this event alone, so a thread of its own makes each, and touches its pages first. Before that both find the length
+//! of the table, which takes longer than the database.
 ghost use Rattle.std.specs.Prelude.{◌≡◌, ◌<◌, ◌-◌, ◌^◌, ◌++◌, ◌∷◌, [], true, length, min, IfOk};
 ghost use Rattle.prof_db.specs.Spelling.{database_spelling, events_spelling};
 ghost use Rattle.prof_db.specs.Writable.{IsWritable};

@@ -19,8 +19,8 @@ use tree_types::{content_holds_its_paths, event_contents_have_parts, event_paths
 use view_tables::tables_are_of_call_paths;
 
 /// Each table of an event of a content is that of the event's call paths, of those that the content was made of. So of
-/// the database of call paths within the format's limits, `view` puts the tables of each event's call paths, and refuses
-/// an event that isn't there.
+/// the database of call paths within the format's limits, `view` puts the tables of each event's call paths, and it
+/// refuses an event that isn't there.
 pub fn views_are_of_call_paths()
     ensures content { (table : ViewTable) (events : List EventPeriod) (runs : List ℕ) (naming : Naming)
         (paths : List ColumnPath) (place : ℕ)

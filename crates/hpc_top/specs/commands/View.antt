@@ -1,5 +1,5 @@
--- `view` as a function of its file: a table of an event of a database; or the first rule that the database breaks, or the
--- event that it lacks.
+-- `view` as a function of its file: a table of an event of a database; or the first rule that the database breaks, or
+-- the event that it lacks.
 use Rattle.std.specs.Prelude.{ℕ, ◌==◌, List, [], ◌∷◌, position}
 use Rattle.std.specs.Prelude.{Option, Some, None, Result, Ok, Err}
 use Rattle.prof_bytes.specs.Outcome.{◌>>=◌}

@@ -46,7 +46,7 @@ fn index_of(event: Event, events: &[EventPeriod]) -> Option<usize>
         .position(|there| there.event.number() == event.number())
 }
 
-/// The place of an event in the list, that of the first where none is named, or the refusal of an event that isn't there.
+/// The place of an event in the list, that of the first where none is named; or the refusal of one that isn't there.
 fn place_of(event: Option<Event>, events: &[EventPeriod]) -> Result<u32, Fail<InputFault>>
     requires { AreEvents events.now }
     ensures exact { Gives (λ place. place) result (place_shown event events.now) }

@@ -1,4 +1,4 @@
-use Rattle.std.proofs.Common.{◌≡◌, ◌∙◌, ◌<◌, ◌≤◌, ℕ, List, [], ◌∷◌, length, All, refl, sym, ap, subst, arith}
+use Rattle.std.proofs.Common.{◌≡◌, ◌∙◌, ◌<◌, ◌≤◌, ℕ, List, [], ◌∷◌, length, All, sym, ap, subst, arith}
 use Rattle.std.proofs.lemmas.List.Elements.{All-cons, All-nil}
 use Rattle.scope_find.specs.Found.{naming_of}
 use Rattle.scope_types.specs.CallPaths.{ColumnPath}
@@ -7,7 +7,7 @@ use Rattle.scope_types.specs.Events.{periods_of}
 use Rattle.scope_types.specs.Limits.{most_harts}
 use Rattle.stripe_table.specs.Ends.{named_paths}
 use Rattle.tree_types.specs.declared.content.EventContent.{EventContent}
-use Rattle.tree_types.specs.Database.{event_content_of, period_at}
+use Rattle.tree_types.specs.Database.{period_at}
 use Rattle.tree_types.specs.NodeValues.{values_of}
 use Rattle.tree_types.specs.OfContent.{IsEventProfile, content_of_event, content_table}
 use Rattle.tree_types.specs.PathsOf.{tree_paths}

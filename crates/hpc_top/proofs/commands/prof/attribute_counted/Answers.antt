@@ -1,4 +1,4 @@
-use Rattle.std.proofs.Common.{Ok, ap, length, ◌∙◌}
+use Rattle.std.proofs.Common.{Ok, ap, ◌∙◌}
 use Rattle.std.proofs.lemmas.Result.{err_from_is_err_and}
 use Rattle.hpc_top.specs.Attribution.{Attributed, attributed, attribution_of}
 use Rattle.hpc_top.specs.Merged.{merging}

@@ -1,4 +1,4 @@
-use Rattle.std.proofs.Common.{Ok, length, sym, subst}
+use Rattle.std.proofs.Common.{Ok, sym, subst}
 use Rattle.prof_bytes.specs.Outcome.{◌>>=◌, Gives}
 use Rattle.scope_find.specs.Found.{ProgramScopes}
 use Rattle.scope_types.specs.Distinct.{each_sample}
