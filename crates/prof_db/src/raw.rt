@@ -8,7 +8,7 @@ use prof_bytes::{Cursor, Listed, Text};
 pub enum Version {
     /// One run in which retired is the only event.
     One,
-    /// One run with any other events.
+    /// One run with any events.
     Two,
 }
 
