@@ -211,8 +211,10 @@ fn events_of(alloc: Global, events: &[(Event, u32)]) -> Result<Vec<EventPeriod>,
     ensures { IfOk result (λ events. AreEvents events.items) }
 {
     match events {
+        // room: `every(only)`, one event
         [only] if only.1 > 0 => Ok(vec![in alloc; every(only)]?),
         [first, second] if first.1 > 0 && second.1 > 0 && first.0.number() < second.0.number() => {
+            // room: `every(second)`, two events, of which this is the last
             Ok(vec![in alloc; every(first), every(second)]?)
         }
         _ => Err(Fail::Fault(Refused)),
