@@ -39,7 +39,7 @@ function tell_slice(  count, word, left) {
   if (!is_number(word[1])) tell_number("H, the hart,", word[1], 0, harts - 1)
   if (word[1] + 0 >= harts) tell("there is no hart " word[1] ": the harts are 0 to " harts - 1)
   if (!is_number(word[2]) || word[2] + 0 < 1 || word[2] + 0 > 4294967295)
-    tell_number("C, the instructions,", word[2], 1, 4294967295)
+    tell_number("C, the instructions,", word[2], 1, "4294967295")
   left = 4294967295 - used
   if (word[2] + 0 > left) tell("all C together are at most 4294967295, and the lines before leave " sprintf("%.0f", left))
 }
