@@ -14,12 +14,19 @@ def limited(gib):
     return lambda: resource.setrlimit(resource.RLIMIT_AS, (gib << 30, gib << 30))
 
 
-def measured(*words, gib=8, keeps_output=True):
+def measured(*words, gib=8, keeps_output=True, output=None):
     """What a run printed, its seconds by the clock and of processor time, and its peak MiB by GNU time; None where it
-    failed."""
+    failed. The output may go to a file."""
+    if output:
+        with open(output, "wb") as file:
+            return _measured(words, gib, file)
+    return _measured(words, gib, subprocess.PIPE if keeps_output else subprocess.DEVNULL)
+
+
+def _measured(words, gib, output):
     timer = ["/usr/bin/time", "-q", "-f", "%e %U %S %M"]
     ran = subprocess.run([*timer, *map(str, words)], text=True, stderr=subprocess.PIPE, preexec_fn=limited(gib),
-                         stdout=subprocess.PIPE if keeps_output else subprocess.DEVNULL)
+                         stdout=output)
     said = (ran.stdout or "").strip()
     if ran.returncode:
         print(f"{words[0]} failed with status {ran.returncode}: {(said + ran.stderr).strip()[-300:]}")

@@ -33,30 +33,36 @@ fn put_entry(bytes: &mut Vec<u8>, first: u32, second: u32, value: u64) {
     bytes.extend_from_slice(&words.to_le_bytes());
 }
 
-/// The head up to the period, or the events with their periods.
-fn head(events: &[EventPeriod]) -> Vec<u8> {
-    if is_retired_alone(events) {
-        return [b"HPCPROF1".as_slice(), &events[0].period.to_le_bytes()].concat();
+/// The head up to the harts of the runs.
+fn head(events: &[EventPeriod], runs: &[u32]) -> Vec<u8> {
+    let is_alone = runs.len() == 1;
+    if is_alone && is_retired_alone(events) {
+        return [b"HPCPROF1".as_slice(), &events[0].period.to_le_bytes(), &runs[0].to_le_bytes()].concat();
     }
-    let mut bytes = b"HPCPROF2".to_vec();
+    let mut bytes = if is_alone { b"HPCPROF2".to_vec() } else { b"HPCPROF3".to_vec() };
     put(&mut bytes, events.len() as u32);
     for it in events {
         put(&mut bytes, it.event as u32);
         put(&mut bytes, it.period);
     }
+    if !is_alone {
+        put(&mut bytes, runs.len() as u32);
+    }
+    runs.iter().for_each(|harts| put(&mut bytes, *harts));
     bytes
 }
 
-pub fn bytes(tree: &Tree, columns: &[Column], events: &[EventPeriod]) -> Vec<u8> {
+/// Runs have the number of harts of each.
+pub fn bytes(tree: &Tree, columns: &[Column], events: &[EventPeriod], runs: &[u32]) -> Vec<u8> {
     let counts: Vec<usize> = columns.iter().map(|column| entries(tree, column)).collect();
     let nodes = tree.scopes.len();
     let names = tree.procs.iter().map(|proc| proc.1.len()).chain(tree.files.iter().map(|file| file.2.len()));
     let listed: usize = names.map(|length| 12 + length).sum();
-    let head = head(events);
-    let fixed = head.len() + 16 + listed + 24 * nodes + 4 * columns.len() + 4 * nodes;
+    let head = head(events, runs);
+    let fixed = head.len() + 12 + listed + 24 * nodes + 4 * columns.len() + 4 * nodes;
     let mut bytes = Vec::with_capacity(fixed + 32 * counts.iter().sum::<usize>());
     bytes.extend_from_slice(&head);
-    for number in [columns.len() / events.len(), tree.procs.len(), tree.files.len(), nodes] {
+    for number in [tree.procs.len(), tree.files.len(), nodes] {
         put(&mut bytes, number as u32);
     }
     for (procedure, name) in &tree.procs {

@@ -13,7 +13,7 @@ pub enum Event {
     Taken,
 }
 
-const NAMED: [(&str, Event); 4] =
+pub const NAMED: [(&str, Event); 4] =
     [("retired", Event::Retired), ("loads", Event::Loads), ("stores", Event::Stores), ("taken", Event::Taken)];
 
 impl Event {
@@ -32,7 +32,7 @@ impl Event {
     }
 }
 
-#[derive(Clone, Copy)]
+#[derive(Clone, Copy, PartialEq, Eq)]
 pub struct EventPeriod {
     pub event: Event,
     pub period: u32,
@@ -129,7 +129,7 @@ pub fn run(machine: &mut Machine, unwinder: &mut Unwinder, slices: &[(usize, u64
 /// Counts a sample's path in its column.
 #[inline(always)]
 pub fn add(paths: &mut Paths, column: usize, trail: &Trail, samples: u64) {
-    let is_new = paths.add(column, trail);
+    let is_new = paths.add(column, trail, 1);
     if samples > MOST_SAMPLES {
         refuse("more than 1048576 samples");
     }

@@ -3,6 +3,7 @@
 //! `baseline [--workers N] [--phases] [--until PHASE] ELF INPUT SCHEDULE PERIOD DB` runs a static ELF32 program, stores
 //! the database, and prints the report. It takes well-formed files alone. PERIOD is that of retired instructions, or a
 //! list of events with theirs.
+//! `baseline merge [--workers N] [--phases] ELF DB MEASURE ..` makes the database and the tables of measurements.
 //! `--phases` writes to standard error what each phase took; `--until` ends after one.
 
 mod cfi;
@@ -16,6 +17,7 @@ mod forms;
 mod frames;
 mod lines;
 mod machine;
+mod measurements;
 mod memory;
 mod ordered;
 mod ranges;
@@ -30,13 +32,14 @@ use std::time::Instant;
 use columns::Column;
 use frames::Rows;
 use machine::Machine;
+use measurements::Measured;
 use scopes::Scopes;
 use tree::Tree;
 use unwind::{Paths, Trail, Unwinder};
 
 const MOST_SAMPLES: u64 = 1 << 20;
 const MOST_FRAMES: usize = 1 << 22;
-const PHASES: [&str; 7] = ["start", "run", "tree", "values", "database", "store", "report"];
+const PHASES: [&str; 8] = ["start", "read", "run", "tree", "values", "database", "store", "report"];
 
 fn refuse(text: &str) -> ! {
     eprintln!("hpc: {text}");
@@ -45,6 +48,7 @@ fn refuse(text: &str) -> ! {
 
 fn usage() -> ! {
     eprintln!("usage: baseline [--workers N] [--phases] [--until PHASE] ELF INPUT SCHEDULE PERIOD DB");
+    eprintln!("       baseline merge [--workers N] [--phases] [--until PHASE] ELF DB MEASURE ..");
     exit(2)
 }
 
@@ -71,7 +75,14 @@ impl Words {
             }
         }
         let is_phase = words.last_phase.is_empty() || PHASES.contains(&words.last_phase.as_str());
-        if words.files.len() == 5 && is_phase { words } else { usage() }
+        let is_whole = words.is_merge() && words.files.len() > 3 || words.files.len() == 5;
+        if is_whole && is_phase { words } else { usage() }
+    }
+}
+
+impl Words {
+    fn is_merge(&self) -> bool {
+        self.files.first().is_some_and(|word| word == "merge")
     }
 }
 
@@ -136,9 +147,36 @@ fn run(machine: &mut Machine, unwinder: &mut Unwinder, slices: &[(usize, u64)], 
     paths
 }
 
+/// Makes the database and the tables of measurements of one program.
+fn merge(words: &Words, mut clock: Clock) -> std::io::Result<()> {
+    let [_, elf, database, names @ ..] = words.files.as_slice() else { usage() };
+    let file = std::fs::read(elf)?;
+    let program = elf::Program::read(&file);
+    let scopes = Scopes::read(&program);
+    clock.done("start");
+    let Measured { events, runs, paths } = measurements::read(names, &file)?;
+    clock.done("read");
+    let columns = runs.iter().sum::<u32>() as usize * events.len();
+    let tree = Tree::of(&scopes, paths, columns, words.workers);
+    clock.done("tree");
+    let columns = Column::all(&tree, words.workers);
+    clock.done("values");
+    let bytes = database::bytes(&tree, &columns, &events, &runs);
+    clock.done("database");
+    std::fs::write(database, &bytes)?;
+    clock.done("store");
+    drop(bytes);
+    table::merged(&tree, &columns, &events, std::io::stdout().lock())?;
+    clock.done("report");
+    Ok(())
+}
+
 fn main() -> std::io::Result<()> {
     let words = Words::read();
     let mut clock = Clock { words: &words, since: Instant::now() };
+    if words.is_merge() {
+        return merge(&words, clock);
+    }
     let [elf, input, text, period, database] = words.files.as_slice() else { usage() };
     let (file, input) = (std::fs::read(elf)?, std::fs::read(input)?);
     let (harts, slices) = schedule(&std::fs::read_to_string(text)?);
@@ -159,7 +197,7 @@ fn main() -> std::io::Result<()> {
     clock.done("tree");
     let columns = Column::all(&tree, words.workers);
     clock.done("values");
-    let bytes = database::bytes(&tree, &columns, &events);
+    let bytes = database::bytes(&tree, &columns, &events, &[harts]);
     clock.done("database");
     std::fs::write(database, &bytes)?;
     clock.done("store");

@@ -111,6 +111,17 @@ pub fn report(
         let (found, end) = ((number * count..(number + 1) * count).map(samples).sum::<u64>(), end_of(hart.end));
         writeln!(text.bytes, "hart {number} retired {} samples {found} end {end}", hart.done[0])?;
     }
+    tables(&mut text, tree, columns, events)
+}
+
+/// What `merge` puts: the tables alone.
+pub fn merged(tree: &Tree, columns: &[Column], events: &[EventPeriod], to: impl Write) -> Result<()> {
+    tables(&mut Text { to, bytes: Vec::new() }, tree, columns, events)
+}
+
+fn tables<W: Write>(text: &mut Text<W>, tree: &Tree, columns: &[Column], events: &[EventPeriod]) -> Result<()> {
+    let samples = |column: usize| tree.ends[column].iter().map(|(_, count)| u64::from(*count)).sum::<u64>();
+    let count = events.len();
     for (place, it) in events.iter().enumerate() {
         let found: u64 = (place..columns.len()).step_by(count).map(samples).sum();
         if !is_retired_alone(events) {
@@ -119,7 +130,7 @@ pub fn report(
         }
         text.bytes.extend_from_slice(b"       inclusive      %            frame  scope\n");
         let own: Vec<&Column> = columns.iter().skip(place).step_by(count).collect();
-        rows(&mut text, tree, &own, it.period, found)?;
+        rows(text, tree, &own, it.period, found)?;
     }
     text.flush()
 }

@@ -26,6 +26,15 @@ impl Trail {
     pub fn new() -> Trail {
         Trail { frames: [0; MOST_FRAMES], count: 0, end: End::Whole, hash: 0 }
     }
+
+    /// Takes a path that was measured before.
+    pub fn set(&mut self, end: End, pcs: &[u8]) {
+        (self.end, self.count, self.hash) = (end, pcs.len() / 4, 0);
+        for (frame, bytes) in self.frames.iter_mut().zip(pcs.chunks_exact(4)) {
+            *frame = u32::from_le_bytes(bytes.try_into().expect("four bytes"));
+            self.hash = (self.hash ^ u64::from(*frame)).wrapping_mul(FACTOR).rotate_left(29);
+        }
+    }
 }
 
 /// Multiplies all bits of a hash into its upper half.
@@ -158,7 +167,7 @@ pub struct Path {
     pub first: u32,
     pub count: u32,
     pub frames: u16,
-    pub column: u8,
+    pub column: u16,
     pub is_whole: bool,
     end: End,
 }
@@ -178,9 +187,9 @@ impl Paths {
         Paths { list: Vec::new(), words: Vec::new(), slots: vec![0; 1 << 10] }
     }
 
-    /// Counts a path; answers whether it is new.
+    /// Counts so many samples of a path; answers whether it is new.
     #[inline(always)]
-    pub fn add(&mut self, column: usize, trail: &Trail) -> bool {
+    pub fn add(&mut self, column: usize, trail: &Trail, count: u32) -> bool {
         let frames = &trail.frames[..trail.count];
         let hash = ((trail.hash ^ (column as u64) << 8 ^ trail.end as u64).wrapping_mul(FACTOR) >> 32) as u32;
         let mask = self.slots.len() - 1;
@@ -191,23 +200,23 @@ impl Paths {
                 let path = &mut self.list[entry as u32 as usize - 1];
                 let is_same = path.column as usize == column && path.end == trail.end;
                 if is_same && self.words[path.first as usize..][..path.frames as usize] == *frames {
-                    path.count += 1;
+                    path.count += count;
                     return false;
                 }
             }
             slot = (slot + 1) & mask;
         }
-        self.insert(column, trail, hash, slot);
+        self.insert(column, trail, count, hash, slot);
         true
     }
 
     #[cold]
-    fn insert(&mut self, column: usize, trail: &Trail, hash: u32, slot: usize) {
+    fn insert(&mut self, column: usize, trail: &Trail, count: u32, hash: u32, slot: usize) {
         let path = Path {
             first: self.words.len() as u32,
-            count: 1,
+            count,
             frames: trail.count as u16,
-            column: column as u8,
+            column: column as u16,
             is_whole: trail.end == End::Whole,
             end: trail.end,
         };

@@ -1,11 +1,13 @@
 //! A measurement or a database read in plain Rust, with all that docs/FORMATS.md has of their rules, and how much it holds:
 //! `plain measurement FILE [OUT]` and `plain database FILE`. With OUT the measurement is written again, and its bytes are
-//! stored there. A broken rule is a panic.
+//! stored there. `plain stats FILE KIND` puts the table of `hpc stats`, KIND as it takes it, of a database whose procedures
+//! have no names and whose lines are addresses. A broken rule is a panic.
 #[path = "../trees/prof.rs"]
 #[allow(dead_code)]
 mod prof;
 
-use prof::{End, Line, Map, NO_PARENT, Node, Proc, Scope, Tree};
+use prof::{End, Line, Map, NO_PARENT, Node, Plane, Proc, Scope, Tree};
+use std::io::Write;
 
 const MOST_SAMPLES: u64 = 1_048_576;
 const MOST_FRAMES: u64 = 4_194_304;
@@ -207,11 +209,12 @@ fn read_counts(cursor: &mut Cursor<'_>, nodes: &[Node], harts: u32, period: u64)
     counts
 }
 
-fn read_database(bytes: &[u8]) -> Tree {
+/// The tree and its values, node by node.
+fn read_database(bytes: &[u8]) -> (Tree, Plane) {
     let mut cursor = Cursor { bytes, at: 0 };
     assert_eq!(cursor.take(8), b"HPCPROF1");
     let [period, harts, procedures, files, count] = std::array::from_fn(|_| cursor.word());
-    assert!(period >= 1 && (1..=16).contains(&harts));
+    assert!(period >= 1 && (1..=64).contains(&harts));
     let procedures = read_names(&mut cursor, procedures);
     let files = read_names(&mut cursor, files);
     let mut names = Names {
@@ -233,17 +236,73 @@ fn read_database(bytes: &[u8]) -> Tree {
     let mut sampled = vec![false; tree.nodes.len()];
     tree.counts.iter().for_each(|end| sampled[end.node as usize] = true);
     assert!(tree.nodes.iter().zip(&sampled).all(|(node, is)| *is || !matches!(node.scope, Scope::Stmt(_))));
-    prof::put_entries(&mut wanted, &prof::by_node(&values, tree.nodes.len()));
+    let contexts = prof::by_node(&values, tree.nodes.len());
+    prof::put_entries(&mut wanted, &contexts);
     assert!(bytes[planes..] == wanted[..]);
-    tree
+    (tree, contexts)
+}
+
+// ---- how values are spread over harts
+
+/// How many values of a node are not 0, their sum, the least, the greatest, and the sum of their squares.
+fn spread_of(values: impl Iterator<Item = u64>) -> (u64, u64, u64, u64, u128) {
+    values.fold((0, 0, u64::MAX, 0, 0), |(count, sum, least, greatest, squares), value| {
+        let square = u128::from(value) * u128::from(value);
+        (count + 1, sum + value, least.min(value), greatest.max(value), squares + square)
+    })
+}
+
+fn greatest_divisor(a: u64, b: u64) -> u64 {
+    if b == 0 { a } else { greatest_divisor(b, a % b) }
+}
+
+fn put_label(out: &mut impl Write, scope: &Scope) -> std::io::Result<()> {
+    match scope {
+        Scope::Root(false) => out.write_all(b"<thread root>"),
+        Scope::Root(true) => out.write_all(b"<partial call paths>"),
+        Scope::Proc(Proc::Nameless) => out.write_all(b"<unknown procedure>"),
+        Scope::Call(Line::Address(pc)) => write!(out, "call at 0x{pc:08x}"),
+        Scope::Stmt(Line::Address(pc)) => write!(out, "0x{pc:08x}"),
+        _ => panic!("a scope of a program without debug information"),
+    }
+}
+
+fn put_stats(out: &mut impl Write, nodes: &[Node], contexts: &Plane, kind: u32) -> std::io::Result<()> {
+    let (profiles, sum, least, greatest, squares, mean) = ("profiles", "sum", "least", "greatest", "squares", "mean");
+    writeln!(out, "{profiles:>8} {sum:>16} {least:>16} {greatest:>16} {squares:>32} {mean:>24}  scope")?;
+    let mut depths: Vec<usize> = Vec::with_capacity(nodes.len());
+    for (number, node) in nodes.iter().enumerate() {
+        let depth = if node.parent == NO_PARENT { 0 } else { depths[node.parent as usize] + 1 };
+        depths.push(depth);
+        let column = &contexts.entries[contexts.starts[number]..contexts.starts[number + 1]];
+        let (profiles, sum, least, greatest, squares) =
+            spread_of(column.iter().filter(|entry| entry.first == kind).map(|entry| entry.value));
+        if profiles == 0 {
+            continue;
+        }
+        let divisor = greatest_divisor(sum, profiles);
+        let mean = format!("{}/{}", sum / divisor, profiles / divisor);
+        let blanks = 2 + 2 * depth;
+        write!(out, "{profiles:>8} {sum:>16} {least:>16} {greatest:>16} {squares:>32} {mean:>24}{:blanks$}", "")?;
+        put_label(out, &node.scope)?;
+        out.write_all(b"\n")?;
+    }
+    Ok(())
 }
 
 fn main() -> std::io::Result<()> {
     let words: Vec<String> = std::env::args().collect();
     let bytes = std::fs::read(&words[2])?;
     if words[1] == "database" {
-        println!("{} nodes", read_database(&bytes).nodes.len());
+        println!("{} nodes", read_database(&bytes).0.nodes.len());
         return Ok(());
+    }
+    if words[1] == "stats" {
+        let kind = ["exclusive", "frame", "inclusive"].iter().position(|kind| *kind == words[3]).expect("a kind");
+        let (tree, contexts) = read_database(&bytes);
+        let mut out = std::io::BufWriter::with_capacity(1 << 16, std::io::stdout().lock());
+        put_stats(&mut out, &tree.nodes, &contexts, kind as u32)?;
+        return out.flush();
     }
     let read = read_measurement(&bytes);
     println!("{} paths", read.harts.iter().map(Vec::len).sum::<usize>());

@@ -227,10 +227,10 @@ def look_at_copies(window, name):
     found = window.run("""
       kept.csv = await kept.blob.text();
       return {...kept, rows: view.grid.rows.map(row => [row.level, row.name, row.inclusive * profile.period]),
-        about: document.getElementById("about").textContent};""")
+        about: document.getElementById("about").textContent, several: profile.harts.length > 1};""")
     rows = [line.split("\t") for line in found["copy"].split("\r\n")]
     head = ["level", "scope", "inclusive", "inclusive %", "exclusive", "exclusive %"]
-    same(f"{name}: the head of a copy", rows[0], head)
+    same(f"{name}: the head of a copy", rows[0], head + (["imbalance"] if found["several"] else []))
     same(f"{name}: a copy's rows", [[int(row[0]), row[1], int(row[2])] for row in rows[1:-1]], found["rows"])
     same(f"{name}: a CSV file's rows", found["csv"].count("\r\n"), len(found["rows"]) + 1)
     same(f"{name}: a CSV file's name", found["name"].endswith(".flat.csv"), True)

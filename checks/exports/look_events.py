@@ -143,17 +143,28 @@ def look_at_event_examples(window, program, folder):
 
 
 def look_at_changed_events():
-    """Each byte of a database changed in turn, and each front of it, beside the plain reading of the rules."""
+    """Each byte of a database changed in turn, and each front of it."""
+    whole = databases.events_database(*databases.EVENT_PROFILES["small events"])
+    look_at_malformed("two events", changed(whole))
+
+
+def changed(whole):
+    """Each front of a database, a byte more, and each byte as some others."""
+    yield from (whole[:length] for length in range(len(whole)))
+    yield whole + b"\0"
+    for at, byte in enumerate(whole):
+        for value in {0, 3, 255, byte ^ 1, byte ^ 4} - {byte}:
+            yield whole[:at] + bytes([value]) + whole[at + 1 :]
+
+
+def look_at_malformed(name, cases):
+    """What the exporter's reader says of each, beside the plain reading of the rules."""
     sys.path.insert(0, str(TOP / "tools"))
     from hpc_export.database import Malformed
     from hpc_export.reader import read
 
     rules = plain_rules()
-    whole = databases.events_database(*databases.EVENT_PROFILES["small events"])
-    fronts = [whole[:length] for length in range(len(whole))] + [whole + b"\0"]
-    changes = [whole[:at] + bytes([value]) + whole[at + 1 :] for at, byte in enumerate(whole)
-               for value in {0, 3, 255, byte ^ 1, byte ^ 4} - {byte}]
-    for data in fronts + changes:
+    for data in cases:
         fault = rules.check(data)
         try:
             read(data)
@@ -162,7 +173,7 @@ def look_at_changed_events():
             found = error.rule, error.offset
         wanted = fault and (fault.rule, fault.offset)
         if found != wanted:
-            complain(f"two events, malformed: found {found}, not {wanted}: {data[:48].hex()}")
+            complain(f"{name}, malformed: found {found}, not {wanted}: {data[:48].hex()}")
 
 
 def plain_rules():

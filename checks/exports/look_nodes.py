@@ -11,10 +11,17 @@ KINDS = ("exclusive", "frame", "inclusive")
 SCOPES = {"root": "root", "proc": "procedure", "inline": "inlined procedure", "call": "call", "stmt": "statement"}
 
 
+def hart_names(harts):
+    """The names of the harts of one run, or of a list of runs."""
+    if isinstance(harts, int):
+        return [f"hart {hart}" for hart in range(harts)]
+    return [f"run {run} hart {hart}" for run, number in enumerate(harts) for hart in range(number)]
+
+
 def rows_of(profile, events, harts):
     """The rows that are wanted, each by the names of its columns."""
-    nodes = databases.tree(profile)
-    columns = databases.values(nodes, harts * len(events))
+    nodes, names = databases.tree(profile), hart_names(harts)
+    columns = databases.values(nodes, len(names) * len(events))
     paths = []
     for node in nodes:
         parent = node.parent.number
@@ -35,7 +42,7 @@ def rows_of(profile, events, harts):
         for column, kinds in enumerate(columns):
             number, period = events[column % len(events)]
             for kind, values in zip(KINDS, kinds):
-                name = f"hart {column // len(events)} {databases.EVENTS[number]} {kind}"
+                name = f"{names[column // len(events)]} {databases.EVENTS[number]} {kind}"
                 row[name] = values[node.number] * period
         yield row
 
@@ -48,8 +55,8 @@ def look_at_nodes(name, database, profile, events, harts):
     as_text = [{key: "" if value is None else str(value) for key, value in row.items()} for row in wanted]
     same(f"{name}: CSV's rows", found, as_text)
     same(f"{name}: CSV's lines", text.count("\r\n"), len(wanted) + 1)
-    last = databases.EVENTS[events[-1][0]]
-    part = [{key: value for key, value in row.items() if not key.startswith("hart") or key.startswith(f"hart 0 {last}")}
+    last, first = databases.EVENTS[events[-1][0]], hart_names(harts)[0]
+    part = [{key: value for key, value in row.items() if " hart " not in f" {key}" or key.startswith(f"{first} {last}")}
             for row in wanted]
     same(f"{name}: JSON of one hart and event",
-         json.loads(exported(database, "json", "--hart", "0", "--event", last)), part)
+         json.loads(exported(database, "json", "--run", "0", "--hart", "0", "--event", last)), part)

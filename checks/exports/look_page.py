@@ -67,14 +67,14 @@ return {rows: grid.rows.length, roots: grid.rows.filter(row => row.level === 0).
   sum: grid.rows.filter(row => row.level === 0).reduce((sum, row) => sum + row.exclusive, 0),
   has: grid.rows[grid.at].has,
   active: document.getElementById(document.getElementById("grid").getAttribute("aria-activedescendant")) !== null,
-  told: rows.every(row => row.getAttribute("aria-level") && row.querySelectorAll("[role=gridcell]").length === 5)};
+  told: rows.every(row => row.getAttribute("aria-level") && row.querySelectorAll("[role=gridcell]").length === grid.columns.length + 1)};
 """
 SORTED = """
 const {grid} = view, found = {};
-for (const column of grid.table.columns) {
+for (const column of grid.columns) {
   grid.sortBy(column);
   if (!grid.sort.down) grid.sortBy(column);
-  found[column] = grid.rows.filter(row => row.level === 0).map(row => row[VALUE[column]]);
+  found[column] = grid.rows.filter(row => row.level === 0).map(row => valueOf(row, column));
 }
 grid.sortBy("inclusive");
 return found;

@@ -4,6 +4,7 @@ import re
 
 import databases
 from exporter import complain, same
+from look_spread import hundredths, inclusive_of
 
 # What Tab comes to, and what has a name to be called by.
 CONTROLS = ["hart", "by-procedure", "by-scope", "by-cost", "least", "search", "scroll", "edge", "tab-top", "hot",
@@ -91,10 +92,12 @@ def look_at_table(nodes, profile, period):
     tree = databases.tree([(0, count, path) for _, count, path in profile])
     for node in tree:
         exclusive[node.number] = node.exclusive.get(0, 0) * period
-    for node, row in zip(tree, databases.top_down(profile, period)):
+    harts = inclusive_of(profile, 1 + max(hart for hart, _, _ in profile))
+    for node, row, values in zip(tree, databases.top_down(profile, period), harts):
         all_, share, frame, indent, label = re.match(r" *(\d+) +(\S+) +(\d+)  ((?:  )*)(.*)$", row).groups()
         figures = f"inclusive {int(all_):,}, {share} percent, frame {int(frame):,}"
-        wanted.append((len(indent) // 2 + 1, f"{label}, {figures}, exclusive {exclusive[node.number]:,}"))
+        figures += f", exclusive {exclusive[node.number]:,}, imbalance {hundredths([v for v in values if v])}"
+        wanted.append((len(indent) // 2 + 1, f"{label}, {figures}"))
     rows = [(properties["level"], name) for role, name, properties in nodes
             if role == "row" and properties.get("level")]
     same("rows that are no scope's", sorted(set(rows) - set(wanted)), [])

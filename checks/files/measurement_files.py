@@ -2,18 +2,29 @@
 import struct
 
 WHOLE, NO_FDE, NO_CFA, EXPRESSION, UNMAPPED, DEPTH = range(6)
-MOST_HARTS, MOST_DEPTH = 16, 512
+MOST_HARTS, MOST_EVENTS, MOST_DEPTH = 64, 4, 512
 MOST_SAMPLES, MOST_FRAMES = 1048576, 4194304
 
 
 def written(length, entry, period, harts):
-    """The bytes for a program of that length and entry: for each hart its paths, each a count, an end and pcs."""
-    words = [length, entry, period, len(harts)]
-    for paths in harts:
+    """The bytes of version 1 for a program of that length and entry: for each hart its paths, each a count, an end and
+    pcs."""
+    return spelled(b"HPCRUNM1", [length, entry, period, len(harts)], harts)
+
+
+def events_written(length, entry, events, harts, columns):
+    """The bytes of version 2, of events with their numbers and periods: for each hart and event its paths."""
+    numbers = [number for event in events for number in event]
+    return spelled(b"HPCRUNM2", [length, entry, len(events), *numbers, harts], columns)
+
+
+def spelled(first, head, columns):
+    words = [*head]
+    for paths in columns:
         words.append(len(paths))
         for count, end, pcs in paths:
             words += [count, end, len(pcs), *pcs]
-    return b"HPCRUNM1" + struct.pack(f"<{len(words)}I", *words)
+    return first + struct.pack(f"<{len(words)}I", *words)
 
 
 # examples/straight with the period 5
@@ -28,6 +39,9 @@ HARTS = [
     [(3, WHOLE, CALLED), (1, NO_FDE, CALLED[:2]), (2, DEPTH, CALLED[:2]), (4, WHOLE, (0x10004,)), ONE],
     [(7, WHOLE, CALLED), (5, NO_CFA, (0x10030, 0x10008))],
 ]
+# Retired and stores of two harts: a path of both events, one of both harts, and a column without a path.
+EVENTS = [(0, 31), (2, 3)]
+COLUMNS = [[(3, WHOLE, CALLED), ONE], [(1, WHOLE, CALLED), (2, NO_CFA, CALLED[:1])], [], [(5, WHOLE, CALLED[:2])]]
 
 
 def changed(name, whole):
@@ -66,3 +80,31 @@ def limits(head):
     }
     for name, (period, harts) in rows.items():
         yield name, written(*head, period, harts)
+
+
+def event_limits(head):
+    """The same of several events."""
+    every = [(number, 7) for number in range(MOST_EVENTS)]
+    rows = {
+        "all events of all harts": (every, MOST_HARTS, [[ONE]] * (MOST_EVENTS * MOST_HARTS)),
+        "all events of a hart too many": (every, MOST_HARTS + 1, [[ONE]] * (MOST_EVENTS * (MOST_HARTS + 1))),
+        "no hart": (every, 0, []),
+        "no event": ([], 1, []),
+        "an event too many": ([*every, (4, 1)], 1, [[ONE]] * 5),
+        "retired alone": ([(0, 7)], 1, [[ONE]]),
+        "retired alone with the period 0": ([(0, 0)], 1, [[ONE]]),
+        "each period 0": ([(1, 0), (3, 0)], 1, [[ONE]] * 2),
+        "an event twice, the first period 0": ([(1, 0), (1, 7)], 1, [[ONE]] * 2),
+        "an event before the one before it": ([(3, 7), (1, 7)], 1, [[ONE]] * 2),
+        "an event before the first of three": ([(1, 7), (3, 7), (0, 7)], 1, [[ONE]] * 3),
+        "taken alone, with the longest period": ([(3, 0xFFFFFFFF)], 1, [[(MOST_SAMPLES, *ONE[1:])]]),
+        "all samples in two events": (EVENTS, 1, [[(MOST_SAMPLES - 1, *ONE[1:])], [ONE]]),
+        "a sample too many in two events": (EVENTS, 1, [[(MOST_SAMPLES, *ONE[1:])], [ONE]]),
+        "a path twice in a column": (EVENTS, 1, [[ONE], [ONE, ONE]]),
+        "a scope too many in three events": (every[1:], 1, [deep(8184), [ONE], [ONE, (1, WHOLE, (0x10004,))]]),
+        "a frame too many in two events": (EVENTS, 1, [deep(4096), [*deep(4096), ONE]]),
+        "a column too few": (EVENTS, 2, [[ONE]] * 3),
+        "a column too many": (EVENTS, 2, [[ONE]] * 5),
+    }
+    for name, (events, harts, columns) in rows.items():
+        yield name, events_written(*head, events, harts, columns)

@@ -1,4 +1,5 @@
-"""Databases for tests, written from docs/FORMATS.md, and the three tables of their samples, counted plainly.
+"""Databases for tests, written from docs/FORMATS.md; the profiles that they are of, and their tables, counted plainly
+(counted_tables.py).
 
 A path is a tuple of scopes, outermost first:
 
@@ -7,87 +8,16 @@ A path is a tuple of scopes, outermost first:
 with a PROC (kind, number, name) and a LINE either an address or (table, file, file's name, line). A profile is a list
 of (hart, number of samples, path); one of several events a list of (column, number of samples, path). Events are a list
 of (number, period), and the column of a hart and an event is the hart times their number, and the event's place in the
-list.
+list. The harts of several runs are numbered run by run; runs are a list of the harts of each.
 """
 import itertools
 import random
 import struct
-from collections import defaultdict
 
-EVENTS = ("retired", "loads", "stores", "taken")
-SCOPES = ("root", "proc", "inline", "call", "stmt")
-ROOTS = ("<thread root>", "<partial call paths>")
-NAMELESS = (2, 0, b"<unknown procedure>")
-TOP_HEADER = f"{'inclusive':>16} {'%':>6} {'frame':>16}  scope"
-
-
-def line_order(line):
-    return (1, line) if isinstance(line, int) else (0, line[0], line[1], line[3])
-
-
-def order(scope):
-    """Scopes stand by their kind, then by what they have; a procedure by its kind and number."""
-    if scope[0] == "root":
-        return 0, scope[1]
-    if scope[0] in ("proc", "inline"):
-        return SCOPES.index(scope[0]), scope[1][:2], *map(line_order, scope[2:])
-    return SCOPES.index(scope[0]), line_order(scope[1])
-
-
-class Node:
-    """`exclusive` has by column the samples that end there."""
-
-    def __init__(self, scope, parent):
-        self.scope, self.parent, self.children = scope, parent, {}
-        self.exclusive, self.number = {}, None
-
-
-def child(node, scope):
-    if scope not in node.children:
-        node.children[scope] = Node(scope, node)
-    return node.children[scope]
-
-
-def count_at(node, column, count):
-    node.exclusive[column] = node.exclusive.get(column, 0) + count
-
-
-def tree(profile):
-    """The nodes of a profile in preorder."""
-    top = Node(None, None)
-    for column, count, path in profile:
-        node = top
-        for scope in path:
-            node = child(node, scope)
-        count_at(node, column, count)
-    return preorder(top)
-
-
-def preorder(top):
-    nodes, waiting = [], [top]
-    while waiting:
-        node = waiting.pop()
-        if node is not top:
-            node.number = len(nodes)
-            nodes.append(node)
-        children = sorted(node.children.values(), key=lambda child: order(child.scope), reverse=True)
-        waiting += children
-    return nodes
-
-
-def values(nodes, columns):
-    """For each column the exclusive, frame and inclusive numbers of samples of each node."""
-    found = []
-    for column in range(columns):
-        exclusive = [node.exclusive.get(column, 0) for node in nodes]
-        frame, inclusive = exclusive[:], exclusive[:]
-        for node in reversed(nodes):
-            if node.parent.number is not None:
-                inclusive[node.parent.number] += inclusive[node.number]
-                if node.scope[0] != "proc":
-                    frame[node.parent.number] += frame[node.number]
-        found.append((exclusive, frame, inclusive))
-    return found
+from counted_tables import (  # noqa: F401, the names by which checks call them
+    EVENTS, KINDS, NAMELESS, ROOTS, SCOPES, STATS_HEADER, TOP_HEADER, Node, callees, callers, child, count_at, flat,
+    frames, label, of_event, order, place, preorder, row, stats, top_down, tree, values, without,
+)
 
 
 def database(profile, period, harts):
@@ -96,29 +26,39 @@ def database(profile, period, harts):
 
 
 def events_database(profile, events, harts):
-    """The bytes of version 2, or of version 1 where retired is the only event."""
+    """The bytes of version 3 where the harts are a list of two runs or more, else of version 1 where retired is the only
+    event, else of version 2."""
     return written(tree(profile), events, harts)
+
+
+def runs_database(profile, events, runs):
+    """The bytes of version 3, or of the other versions where there is one run."""
+    return written(tree(profile), events, runs)
 
 
 def retired_every(period):
     return [(0, period)]
 
 
-def head(events):
-    """The bytes before the number of harts."""
-    if events[:-1] == [] and events[0][0] == 0:
-        return struct.pack("<8sI", b"HPCPROF1", events[0][1])
-    words = [word for event in events for word in event]
-    return struct.pack(f"<8sI{len(words)}I", b"HPCPROF2", len(events), *words)
+def head(events, runs):
+    """The bytes before the number of procedures."""
+    if len(runs) == 1 and events[:-1] == [] and events[0][0] == 0:
+        return struct.pack("<8s2I", b"HPCPROF1", events[0][1], *runs)
+    pairs = [word for event in events for word in event]
+    words = [len(events), *pairs, *([len(runs)] if len(runs) > 1 else []), *runs]
+    return struct.pack(f"<8s{len(words)}I", b"HPCPROF3" if len(runs) > 1 else b"HPCPROF2", *words)
 
 
 def written(nodes, events, harts):
+    """The bytes of a tree. `harts` is their number in the one run, or the list of runs."""
+    runs = [harts] if isinstance(harts, int) else harts
+    harts = sum(runs)
     procedures = sorted({node.scope[1] for node in nodes if node.scope[0] in ("proc", "inline")})
     lines = [node.scope[-1] for node in nodes if node.scope[0] in ("inline", "call", "stmt")]
     files = sorted({line[:3] for line in lines if not isinstance(line, int)})
     place_of = {entry: place for place, entry in enumerate(procedures)}
     file_of = {entry: place for place, entry in enumerate(files)}
-    parts = [head(events), struct.pack("<4I", harts, len(procedures), len(files), len(nodes))]
+    parts = [head(events, runs), struct.pack("<3I", len(procedures), len(files), len(nodes))]
     for entry in procedures + files:
         parts.append(struct.pack("<3I", *entry[:2], len(entry[2])) + entry[2])
     for node in nodes:
@@ -149,160 +89,6 @@ def written(nodes, events, harts):
         ]
         parts += [struct.pack("<I", len(entries)), *entries]
     return b"".join(parts)
-
-
-def of_event(profile, events, place):
-    """The profile of the event at a place: its columns are harts."""
-    count = len(events)
-    return [(column // count, samples, path) for column, samples, path in profile if column % count == place]
-
-
-# ---- the tables of one event, as docs/FORMATS.md and HPCToolkit's manual tell them
-
-
-def place(line):
-    return f"0x{line:08x}" if isinstance(line, int) else f"{line[2].decode()}:{line[3]}"
-
-
-def label(scope):
-    if scope[0] == "root":
-        return ROOTS[scope[1]]
-    if scope[0] == "proc":
-        return scope[1][2].decode()
-    if scope[0] == "inline":
-        return f"[I] {scope[1][2].decode()} called at {place(scope[2])}"
-    return ("call at " if scope[0] == "call" else "") + place(scope[1])
-
-
-def row(level, first, second, total, name):
-    tenths = first * 1000 // total
-    return f"{first:16} {f'{tenths // 10}.{tenths % 10}':>6} {second:16}  {'  ' * level}{name}"
-
-
-def top_down(profile, period):
-    """Rows of all nodes: inclusive, share and frame value."""
-    total = sum(count for _, count, _ in profile) * period
-    nodes = tree([(0, count, path) for _, count, path in profile])
-    if not nodes:
-        return []
-    _, frame, inclusive = values(nodes, 1)[0]
-    levels = {}
-    for node in nodes:
-        levels[node.number] = 0 if node.parent.number is None else levels[node.parent.number] + 1
-    return [
-        row(levels[node.number], inclusive[node.number] * period, frame[node.number] * period, total, label(node.scope))
-        for node in nodes
-    ]
-
-
-def callers(profile, period, depth):
-    """Rows of all chains of up to depth + 1 procedures, each with its callers below."""
-    total = sum(count for _, count, _ in profile) * period
-    inclusive, exclusive = defaultdict(int), defaultdict(int)
-    for _, count, path in profile:
-        procedures = [scope[1] for scope in path if scope[0] == "proc"]
-        runs = set()
-        for end in range(len(procedures)):
-            for length in range(1, min(end + 1, depth + 1) + 1):
-                runs.add(tuple(reversed(procedures[end + 1 - length : end + 1])))
-        for run in runs:
-            inclusive[run] += count
-        for length in range(1, min(len(procedures), depth + 1) + 1):
-            exclusive[tuple(reversed(procedures[-length:]))] += count
-    rows = []
-
-    def below(chain):
-        found = [run for run in inclusive if run[:-1] == chain]
-        for run in sorted(found, key=lambda run: (-inclusive[run], run[-1][:2])):
-            name = ("<- " if chain else "") + run[-1][2].decode()
-            rows.append(row(len(chain), inclusive[run] * period, exclusive[run] * period, total, name))
-            below(run)
-
-    below(())
-    return rows
-
-
-def callees(profile, period, depth):
-    """Rows of all chains of up to depth + 1 procedures, each with what it calls below."""
-    total = sum(count for _, count, _ in profile) * period
-    inclusive, exclusive = defaultdict(int), defaultdict(int)
-    for _, count, path in profile:
-        procedures = tuple(scope[1] for scope in path if scope[0] == "proc")
-        for length in range(1, depth + 2):
-            starts = range(len(procedures) - length + 1)
-            for chain in {procedures[start : start + length] for start in starts}:
-                inclusive[chain] += count
-            if starts:
-                exclusive[procedures[-length:]] += count
-    rows = []
-
-    def below(chain):
-        found = [run for run in inclusive if run[:-1] == chain]
-        for run in sorted(found, key=lambda run: (-inclusive[run], run[-1][:2])):
-            name = ("-> " if chain else "") + run[-1][2].decode()
-            rows.append(row(len(chain), inclusive[run] * period, exclusive[run] * period, total, name))
-            below(run)
-
-    below(())
-    return rows
-
-
-def without(path, is_hidden):
-    """A path without the frames of hidden procedures: what lies in one belongs to the call that led to it, and of a
-    hidden inlined procedure to the place where it was inlined."""
-    found, place = [], None
-    for scope in path:
-        if scope[0] in ("proc", "inline") and is_hidden(scope[1]):
-            place = "call" if scope[0] == "proc" else place or scope[2]
-        elif scope[0] in ("root", "proc"):
-            found.append(scope)
-            place = None
-        elif scope[0] == "inline":
-            found.append(scope if place in (None, "call") else ("inline", scope[1], place))
-            place = None
-        elif place is None:
-            found.append(scope)
-        elif place != "call":
-            found.append((scope[0], place))
-    return tuple(found)
-
-
-def frames(path):
-    """A path's frames: the procedure, and the line of its call or statement."""
-    procedure = None
-    for scope in path:
-        if scope[0] == "proc":
-            procedure = scope[1]
-        elif scope[0] in ("call", "stmt"):
-            yield procedure, scope[1]
-
-
-def flat(profile, period):
-    """Rows of files, procedures and lines."""
-    total = sum(count for _, count, _ in profile) * period
-    inclusive, exclusive, names = defaultdict(int), defaultdict(int), {}
-    for _, count, path in profile:
-        found = []
-        for procedure, line in frames(path):
-            file = b"<unknown file>" if isinstance(line, int) else line[2]
-            number = (1, line) if isinstance(line, int) else (0, line[3])
-            keys = [(file,), (file, procedure[:2]), (file, procedure[:2], number)]
-            found.append(keys)
-            written = f"0x{line:08x}" if isinstance(line, int) else f"line {line[3]}"
-            names.update(zip(keys, (file.decode(), procedure[2].decode(), written)))
-        for key in {key for keys in found for key in keys}:
-            inclusive[key] += count
-        for key in found[-1]:
-            exclusive[key] += count
-    rows = []
-
-    def below(above):
-        for key in sorted((key for key in inclusive if key[:-1] == above), key=lambda key: (-inclusive[key], key[-1])):
-            rows.append(row(len(above), inclusive[key] * period, exclusive[key] * period, total, names[key]))
-            below(key)
-
-    below(())
-    return rows
 
 
 # ---- profiles
@@ -411,10 +197,38 @@ EVENT_PROFILES = {  # name: profile, events, harts
     "small events": (small_events(), [(0, 5), (3, 2)], 2),
     "recursive events": (recursive_events(), [(1, 97), (2, 1), (3, 4294967295)], 2),
     "stores alone": (inlined(), [(2, 3)], 1),
-    "all events, none sampled": ([], [(0, 21), (1, 22), (2, 23), (3, 24)], 16),
-    "all events of 16 harts": (
-        [(column, 1 + column % 5, path) for column in range(64) for _, _, path in inlined()[column % 3 :: 4]],
+    "all events, none sampled": ([], [(0, 21), (1, 22), (2, 23), (3, 24)], 64),
+    "all events of 64 harts": (
+        [(column, 1 + column % 5, path) for column in range(256) for _, _, path in inlined()[column % 3 :: 4]],
         [(0, 7), (1, 6), (2, 5), (3, 4)],
-        16,
+        64,
+    ),
+}
+
+
+def small_runs():
+    """Two runs, of two harts and of one: samples of two of these at one statement, and a hart without samples."""
+    base = ("root", 0), ("proc", NAMELESS)
+    return [(0, 1, (*base, ("stmt", 0x10010))), (2, 2, (*base, ("stmt", 0x10010))), (2, 1, (*base, ("stmt", 0x10024)))]
+
+
+RUN_PROFILES = {  # name: profile, events, the harts of each run
+    "small runs": (small_runs(), [(0, 5)], [2, 1]),
+    "a run twice": (straight() + [(1, count, path) for _, count, path in straight()], [(0, 5)], [1, 1]),
+    "recursive runs": (
+        [(3 * (place % 4) + place % 3, count, path) for place, (_, count, path) in enumerate(recursive())],
+        [(1, 97), (2, 1), (3, 4294967295)],
+        [1, 2, 1],
+    ),
+    "three runs, none sampled": ([], [(0, 21), (3, 24)], [64, 1, 2]),
+    "16 runs": (
+        [(hart, 1 + hart % 7, path) for hart in range(136) for _, _, path in inlined()[hart % 3 :: 3]],
+        [(0, 7)],
+        list(range(1, 17)),
+    ),
+    "all events of 16 runs of 64 harts": (
+        [(column, 1 + column % 3, path) for column in range(0, 4096, 5) for _, _, path in inlined()[column % 3 :: 5]],
+        [(0, 7), (1, 6), (2, 5), (3, 4)],
+        [64] * 16,
     ),
 }

@@ -1,5 +1,5 @@
 # awk -f causes.awk STRUCTURE WORDS: the partial call paths of a measurement by their causes. STRUCTURE is the listing
-# of the program's procedures (`hpc struct`), and WORDS are the measurement's words behind its first 8 bytes, one a line.
+# of the program's procedures (`hpc struct`), and WORDS are the measurement's words behind its head, one a line.
 # The first line is `all SAMPLES PARTIAL`; then a line `CAUSE SAMPLES PROCEDURE (SAMPLES), ..` for each cause, the
 # most frequent first, with the procedures of the outermost frames that were found.
 
@@ -39,7 +39,6 @@ FNR == NR {
   next
 }
 
-FNR <= 4 { next }
 !paths { paths = $1; part = 0; next }
 part == 0 { samples = $1; all += samples; part = 1; next }
 part == 1 { end = $1; part = 2; next }

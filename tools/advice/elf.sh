@@ -16,8 +16,8 @@ kind_of() {
   [ -s "$1" ] || { echo 'an empty file'; return; }
   IFS= read -r -d '' -n 8 first <"$1"
   case $first in
-  HPCPROF[12]) echo 'a database' ;;
-  HPCRUNM1) echo 'a measurement' ;;
+  HPCPROF[123]) echo 'a database' ;;
+  HPCRUNM[12]) echo 'a measurement' ;;
   $'\x7fELF'*) echo 'an ELF file' ;;
   '!<arch>'*) echo 'a library (ar)' ;;
   'harts '*) echo 'a schedule' ;;

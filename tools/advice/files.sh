@@ -1,13 +1,20 @@
 # shellcheck shell=bash
 # Sourced: which words of a command are names of files.
 
+# The numbers of the words, from 1, that name the files which a command reads.
+places_read() {
+  case $1 in
+  profile | run) seq 2 4 ;;
+  prof) seq 2 3 ;;
+  merge) echo 2; seq 5 $# ;;
+  struct | view | stats) echo 2 ;;
+  esac
+}
+
 # The files that a command reads, each ended by a NUL.
 files_read() {
-  case $1 in
-  profile | run) printf '%s\0' "${@:2:3}" ;;
-  prof) printf '%s\0' "${@:2:2}" ;;
-  struct | view) printf '%s\0' "$2" ;;
-  esac
+  local place
+  for place in $(places_read "$@"); do printf '%s\0' "${!place}"; done
 }
 
 # The number of the word, from 1, that names the file which a command stores, or nothing.
@@ -16,6 +23,7 @@ place_stored() {
   profile) echo 7 ;;
   run) echo 6 ;;
   prof) echo 5 ;;
+  merge) echo 4 ;;
   esac
 }
 

@@ -2,8 +2,28 @@
 # Sourced: measurements (docs/FORMATS.md, Measurement), and where their paths lie in a program. It takes the variables `hpc`,
 # the built program, and `folder`, one for files.
 
-# The words of a measurement, one a line: the program's length is the first.
-words_of() { od -An -v --endian=little -t u4 -w4 -j 8 "$1"; }
+# head_bytes MEASURE: how many bytes its head has, by its version.
+head_bytes() {
+  case $(head -c 8 "$1") in
+  HPCRUNM2) echo $((24 + 8 * $(word 16 "$1"))) ;;
+  *) echo 24 ;;
+  esac
+}
+
+# The words of a measurement behind its head, one a line: the number of the first column's paths is the first.
+paths_of() { od -An -v --endian=little -t u4 -w4 -j "$(head_bytes "$1")" "$1"; }
+
+# periods_of MEASURE: its events with their periods, as in PERIOD.
+periods_of() {
+  local all=(retired loads stores taken) row at text=
+  if [ "$(head -c 8 "$1")" = HPCRUNM1 ]; then
+    echo "retired:$(word 16 "$1")"
+    return
+  fi
+  read -ra row <<<"$(numbers 4 20 $((8 * $(word 16 "$1"))) "$1")"
+  for ((at = 0; at < ${#row[@]}; at += 2)); do text+="${text:+,}${all[row[at]]}:${row[at + 1]}"; done
+  echo "$text"
+}
 
 # put_words NUMBER..: words of four bytes.
 put_words() {
@@ -26,8 +46,7 @@ put_measure() {
 
 # path_of HART MEASURE: the end and the frames of a hart's path, where it has one alone.
 path_of() {
-  words_of "$2" | awk -v wanted="$1" '
-    NR <= 4 { next }
+  paths_of "$2" | awk -v wanted="$1" '
     !paths { paths = $1; hart++; first = 1; if (!paths) paths = 0; ours = hart - 1 == wanted; single = paths == 1; part = 0; next }
     part == 0 { part = 1; next }
     part == 1 { if (ours && single) printf "%s", $1; part = 2; next }

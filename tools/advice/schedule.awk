@@ -18,15 +18,15 @@ function tell_ends() {
 
 function tell_harts(  number) {
   if ($0 ~ /^\177ELF/) tell("this is a program, and not a schedule")
-  if ($0 ~ /^HPCPROF[12]/) tell("this is a database, and not a schedule")
-  if ($0 ~ /^HPCRUNM1/) tell("this is a measurement, and not a schedule")
+  if ($0 ~ /^HPCPROF[123]/) tell("this is a database, and not a schedule")
+  if ($0 ~ /^HPCRUNM[12]/) tell("this is a measurement, and not a schedule")
   if ($0 ~ /^\357\273\277/) tell("the file begins with a byte order mark, which a schedule hasn't")
   tell_ends()
-  if ($0 !~ /^harts /) tell("the first line that is not empty and no comment is 'harts N', with N from 1 to 16")
+  if ($0 !~ /^harts /) tell("the first line that is not empty and no comment is 'harts N', with N from 1 to 64")
   number = substr($0, 7)
   if (number ~ /^[0-9]+ +[^ ]/) tell("a word too many: the line is 'harts N'; a comment has a line of its own, with # at its beginning")
   if (number ~ /[ \t]/) tell("the line is 'harts N', with one space and none behind N")
-  tell_number("N of 'harts N'", number, 1, 16)
+  tell_number("N of 'harts N'", number, 1, 64)
 }
 
 function tell_slice(  count, word, left) {

@@ -53,7 +53,8 @@ class Labels:
 
 @dataclass
 class Shown:
-    """Which of a database's values are shown: those of one event, by its place in the list, and of some harts, summed.
+    """Which of a database's values are shown: those of one event, by its place in the list, and of some harts, summed,
+    by their numbers among those of all runs.
     The writers ask here alone, and the page has the same choice (page/shown.js)."""
 
     harts: List[int]

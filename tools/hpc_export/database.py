@@ -123,19 +123,33 @@ class Context:
 
 @dataclass
 class Database:
-    """`planes` has one for each column: hart by hart, and of each hart event by event. Values are samples times the
-    period of the column's event. Version 1 has one event, retired instructions. `harts_offset` is that of the number of
-    harts in the file."""
+    """`planes` has one for each column: hart by hart, run by run, and of each hart event by event. Values are samples
+    times the period of the column's event. Version 1 has one event, retired instructions. `runs` has the number of harts
+    of each run; versions 1 and 2 have one. `runs_offset` is that of the first word on them in the file."""
 
     version: int
     events: List[Event]
-    harts: int
-    harts_offset: int
+    runs: List[int]
+    runs_offset: int
     procedures: List[Procedure]
     files: List[File]
     nodes: Nodes
     planes: List[Plane]
     context: Context
+
+    @property
+    def harts(self):
+        """How many harts all runs have. A hart's number is then that among these."""
+        return sum(self.runs)
+
+    @property
+    def places(self):
+        """For each hart its run, and its number there."""
+        return [(run, hart) for run, harts in enumerate(self.runs) for hart in range(harts)]
+
+    def hart_name(self, hart):
+        run, number = self.places[hart]
+        return f"run {run} hart {number}" if len(self.runs) > 1 else f"hart {number}"
 
     @property
     def columns(self):

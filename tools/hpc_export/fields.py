@@ -24,17 +24,18 @@ def read_fields(data, version):
     """The database of a version whose fields these bytes are; the context plane's are asked by `need_context`."""
     reader = _Reader(data, 8)
     events = [Event(0, reader.word(), 8, 8)] if version == 1 else _read_events(reader)
-    harts_offset = reader.at
-    harts, procedures, files, nodes = (reader.word() for _ in range(4))
+    runs_offset = reader.at
+    runs = [reader.word() for _ in range(reader.word() if version > 2 else 1)]
+    procedures, files, nodes = (reader.word() for _ in range(3))
     return Database(
         version,
         events,
-        harts,
-        harts_offset,
+        runs,
+        runs_offset,
         [_read_name(reader, Procedure) for _ in range(procedures)],
         [_read_name(reader, File) for _ in range(files)],
         _read_nodes(reader, nodes),
-        [_read_plane(reader, event.period) for _ in range(harts) for event in events],
+        [_read_plane(reader, event.period) for _ in range(sum(runs)) for event in events],
         Context(reader.at, data[reader.at :]),
     )
 

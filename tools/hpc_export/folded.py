@@ -2,13 +2,35 @@
 
 As flamegraph.pl, inferno and speedscope read them: frames are separated by `;`, the cost stands behind a space. Inlined
 procedures end by `_[i]`, as flamegraph.pl expects. With places the places of calls and the sampled statements are
-frames too. Stacks of one text are one line, in the order in which they come first, or by falling cost.
+frames too. Stacks of one text are one line, in the order in which they come first, or by falling cost. Beside another
+database each line has two costs, that before and that after.
 """
+from dataclasses import replace
+
 from .contexts import ROOT_NAMES, Labels, encoded
 from .database import CALL, INLINE, PROC, ROOT
 
 
 def write(out, database, options):
+    if options.base:
+        _write_compared(out, database, options)
+    else:
+        out.writelines(b"%b %d\n" % line for line in _costs(database, options))
+
+
+def _write_compared(out, database, options):
+    """Each stack of one of both databases, with its cost before and after, as differential flame graphs take it."""
+    base = options.base
+    after = dict(_costs(database, options))
+    before = dict(_costs(base.database, replace(options, shown=base.shown[options.every.index(options.shown)])))
+    stacks = [*after, *(stack for stack in before if stack not in after)]
+    if options.by_cost:
+        stacks.sort(key=lambda stack: (after.get(stack, 0), before.get(stack, 0)), reverse=True)
+    out.writelines(b"%b %d %d\n" % (stack, before.get(stack, 0), after.get(stack, 0)) for stack in stacks)
+
+
+def _costs(database, options):
+    """The text of each stack and its cost."""
     frames = _Frames(database)
     above, last, stack_of = _stacks(database.nodes, _frames_of(database, options, frames), len(frames.texts))
     costs = [0] * len(above)
@@ -18,7 +40,7 @@ def write(out, database, options):
     if options.by_cost:
         stacks.sort(key=costs.__getitem__, reverse=True)
     texts = _texts(stacks, above, list(map(frames.texts.__getitem__, last)))
-    out.writelines(b"%b %d\n" % line for line in zip(texts, map(costs.__getitem__, stacks)))
+    return zip(texts, map(costs.__getitem__, stacks))
 
 
 def paths(database, options):

@@ -12,14 +12,15 @@ from itertools import compress
 from pathlib import Path
 
 from .columns import numbers, packed, whole
+from .comparison import compared
 from .contexts import Shown, readable
 from .database import ROOT
 
 FOLDER = Path(__file__).with_name("page")
 # One script of the page each, in this order.
 SCRIPTS = (
-    "profile.js", "shown.js", "graph.js", "colors.js", "icicle.js", "rows.js", "tables.js", "grid.js", "search.js",
-    "source.js", "filters.js", "panes.js", "link.js", "view.js", "main.js",
+    "profile.js", "shown.js", "spread.js", "graph.js", "colors.js", "icicle.js", "rows.js", "tables.js", "grid.js",
+    "search.js", "source.js", "filters.js", "panes.js", "link.js", "view.js", "main.js",
 )
 
 
@@ -27,6 +28,8 @@ _IS_ROOT = bytes(scope == ROOT for scope in range(256))
 
 
 def write(out, database, options):
+    if options.base:
+        database, options = compared(database, options)
     contents = {
         "TITLE": _escaped(options.title),
         "STYLE": (FOLDER / "style.css").read_text("utf-8"),
@@ -62,7 +65,9 @@ def _names(database, options):
         "title": options.title,
         "version": database.version,
         **({"period": events[0]["period"]} if database.version == 1 else {"events": events, "event": options.shown.place}),
-        "harts": options.shown.harts,
+        # Of each hart that is shown its number in its run, and the run.
+        "harts": [database.places[hart][1] for hart in options.shown.harts],
+        **({"runs": [database.places[hart][0] for hart in options.shown.harts]} if database.version > 2 else {}),
         "procedures": [readable(procedure.name) for procedure in database.procedures],
         "files": [readable(file.name) for file in database.files],
         "nodes": len(database.nodes),
@@ -71,6 +76,13 @@ def _names(database, options):
         "minimum": options.min_percent,
         "partial": options.causes,
     }
+    if options.base:
+        planes = options.base.planes
+        names["before"] = {
+            "title": options.base.title,
+            "periods": [plane.period for plane in planes],
+            "entries": [len(plane.node) for plane in planes],
+        }
     # Within a script element nothing may look like its end.
     return _json(names).replace("<", "\\u003c")
 
@@ -87,7 +99,8 @@ def _sources(database, options):
 
 def _columns(database, options):
     """Columns of 4 bytes each: how far the parent stands before (0 where there is none), operand, file of the line (-1
-    where there is none), line; for each hart and event the nodes and counts; and at last the scopes of a byte each."""
+    where there is none), line; for each hart and event the nodes and counts, and of a comparison for each event those
+    before; and at last the scopes of a byte each."""
     nodes, count = database.nodes, len(database.nodes)
     own, parent = array("I", range(count)), array("i", nodes.parent)
     for root in compress(own, nodes.scope.translate(_IS_ROOT)):
@@ -99,6 +112,8 @@ def _columns(database, options):
     columns = [steps, packed(nodes.operand), packed(line_file[0::2]), lines]
     for plane in _planes(database, options):
         columns += packed(plane.node), packed(array("I", plane.samples))
+    for plane in options.base.planes if options.base else []:
+        columns += packed(plane.node), packed(plane.samples)
     return columns + [nodes.scope]
 
 

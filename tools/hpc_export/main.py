@@ -11,6 +11,7 @@ from dataclasses import dataclass, field
 from typing import List
 
 from . import callgrind, folded, html, linkage_names, measurement, nodes, source, speedscope
+from .comparison import Base
 from .contexts import Shown
 from .database import EVENTS, Malformed
 from .reader import begin
@@ -31,6 +32,7 @@ ONLY = {
     "--by-cost": ("folded",),
     "--source": ("html", "source"),
     "--measurement": ("html",),
+    "--base": ("html", "folded"),
 }
 
 INVALID, MALFORMED, DEVICE = 2, 3, 4
@@ -41,7 +43,7 @@ class Options:
     """What a format may be told: its title, which values are shown, and those of each event where a format has several
     of them, whether places of calls and statements are frames,
     the share of the total below which scopes are left out, whether the costliest comes first, where sources are, the
-    file whose source is written, and why call paths are partial (texts with numbers of samples)."""
+    file whose source is written, why call paths are partial (texts with numbers of samples), and what is compared with."""
 
     title: str
     shown: Shown
@@ -52,6 +54,7 @@ class Options:
     sources: Sources = None
     file: str = ""
     causes: List = field(default_factory=list)
+    base: Base = None
 
 
 class Refused(Exception):
@@ -73,7 +76,10 @@ def _arguments():
     parser.add_argument("format", metavar="FORMAT", choices=list(WRITERS), help=" | ".join(WRITERS))
     parser.add_argument("file", metavar="FILE", nargs="?", help="source: the file, by its name or the end of it")
     parser.add_argument("-o", dest="output", metavar="FILE", help="write to FILE in place of standard output")
-    parser.add_argument("--hart", type=int, action="append", metavar="H", help="this hart alone (may be repeated)")
+    parser.add_argument("--run", type=int, action="append", metavar="R", help="this run alone (may be repeated)")
+    parser.add_argument(
+        "--hart", type=int, action="append", metavar="H", help="this hart of the runs alone (may be repeated)"
+    )
     parser.add_argument(
         "--event", choices=EVENTS, metavar="EVENT",
         help=" | ".join(EVENTS) + ": this event (default: the first of the database; callgrind, csv, json: all)",
@@ -93,6 +99,9 @@ def _arguments():
     parser.add_argument(
         "--source", action="append", metavar="FOLDER|FROM=TO",
         help="html, source: where sources lie, or how names begin there (may be repeated)",
+    )
+    parser.add_argument(
+        "--base", metavar="BEFORE", help="html, folded: beside each value that of BEFORE, a database, by call path of names"
     )
     parser.add_argument("--measurement", metavar="MEASURE", help="html: say why call paths are partial")
     return parser
@@ -143,18 +152,18 @@ def _umask():
     return mask
 
 
-def _begun(words):
-    """The database, and what waits until all of it is checked."""
+def _begun(name):
+    """The database of a file, and what waits until all of it is checked."""
     try:
-        database, finish = begin(_read_file(words.database))
+        database, finish = begin(_read_file(name))
     except Malformed as error:
-        raise Refused(MALFORMED, f"{words.database}: {error}") from error
+        raise Refused(MALFORMED, f"{name}: {error}") from error
 
     def finish_refusing():
         try:
             finish()
         except Malformed as error:
-            raise Refused(MALFORMED, f"{words.database}: {error}") from error
+            raise Refused(MALFORMED, f"{name}: {error}") from error
 
     return database, finish_refusing
 
@@ -179,10 +188,10 @@ def _causes(words, database):
         measured = measurement.read(_read_file(words.measurement))
     except measurement.Malformed as error:
         raise Refused(MALFORMED, f"{words.measurement}: {error}") from error
-    counted = sum(path.samples for paths in measured.harts for path in paths)
+    counted = sum(path.samples for paths in measured.columns for path in paths)
     samples = sum(sum(plane.samples) for plane in database.planes)
     events = [(event.number, event.period) for event in database.events]
-    if ([(0, measured.period)], counted) != (events, samples):
+    if (measured.events, counted) != (events, samples):
         raise Refused(MALFORMED, f"{words.measurement}: the measurement of another database")
     return [[measurement.CAUSES[end], count] for end, count in measurement.causes(measured).most_common()]
 
@@ -203,15 +212,43 @@ def _places(words, database):
     return [names.index(words.event)] if words.event else list(range(len(names)))
 
 
-def _options(words, database):
-    harts = sorted(set(words.hart)) if words.hart else list(range(database.harts))
-    if not set(harts) <= set(range(database.harts)):
-        raise Refused(INVALID, f"{words.database}: harts are 0 to {database.harts - 1}")
+def _harts(words, database, name):
+    """The harts of the runs that the user wants, by their numbers among all."""
+    if not set(words.run or []) <= set(range(len(database.runs))):
+        raise Refused(INVALID, f"{name}: {_range('runs', len(database.runs))}")
+    chosen = [hart for hart, (run, _) in enumerate(database.places) if words.run is None or run in words.run]
+    numbers = {database.places[hart][1] for hart in chosen}
+    if not set(words.hart or []) <= numbers:
+        raise Refused(INVALID, f"{name}: {_range('harts', len(numbers))}")
+    return [hart for hart in chosen if words.hart is None or database.places[hart][1] in words.hart]
+
+
+def _range(what, count):
+    return f"{what} are 0 to {count - 1}"
+
+
+def _base(words, before, every, events):
+    """What is compared with, and the places of the events that both databases have."""
+    numbers = [event.number for event in before.events]
+    harts = _harts(words, before, words.base)
+    both = [(shown, numbers.index(event.number)) for shown, event in zip(every, events) if event.number in numbers]
+    if not both:
+        raise Refused(INVALID, f"{words.base}: no event {' or '.join(event.name for event in events)}")
+    shown = [Shown(harts, place) for _, place in both]
+    return Base(before, os.path.basename(words.base), shown), [after for after, _ in both]
+
+
+def _options(words, database, before):
+    harts = _harts(words, database, words.database)
     places = _places(words, database)
+    every, base = [Shown(harts, place) for place in places], None
+    if before:
+        base, every = _base(words, before, every, [database.events[place] for place in places])
     return Options(
         title=words.title or os.path.basename(words.database),
-        shown=Shown(harts, places[0]),
-        every=[Shown(harts, place) for place in places],
+        shown=every[0],
+        every=every,
+        base=base,
         with_places=words.places,
         min_percent=words.min_percent,
         by_cost=words.by_cost,
@@ -230,8 +267,8 @@ def _check_words(words):
         raise Refused(INVALID, "source wants a FILE" if words.format == "source" else f"{words.format} takes no FILE")
 
 
-def _write(words, database, finish):
-    options = _options(words, database)
+def _write(words, database, before, finish):
+    options = _options(words, database, before)
     try:
         with _opened(words.output, finish) as out:
             WRITERS[words.format](out, database, options)
@@ -247,12 +284,18 @@ def _write(words, database, finish):
 
 def _export(words):
     _check_words(words)
-    database, finish = _begun(words)
-    try:
-        _write(words, _named(words, database), finish)
-    except Refused:
-        # That the database is malformed is said before all else.
+    database, finish = _begun(words.database)
+    before, finish_before = _begun(words.base) if words.base else (None, lambda: None)
+
+    def finish_both():
         finish()
+        finish_before()
+
+    try:
+        _write(words, _named(words, database), before and _named(words, before), finish_both)
+    except Refused:
+        # That a database is malformed is said before all else.
+        finish_both()
         raise
 
 

@@ -10,10 +10,13 @@ from collections import Counter
 from dataclasses import dataclass
 from typing import List, NamedTuple, Tuple
 
-MAGIC = b"HPCRUNM1"
-MOST_HARTS, MOST_FRAMES_OF_PATH = 16, 512
+from .database import EVENTS
+
+VERSIONS = {b"HPCRUNM1": 1, b"HPCRUNM2": 2}
+MOST_HARTS, MOST_FRAMES_OF_PATH = 64, 512
 MOST_SAMPLES, MOST_FRAMES = 1 << 20, 1 << 22
 
+RETIRED = 0
 # How a path ends.
 WHOLE, NO_FDE, NO_CFA, EXPRESSION, UNMAPPED, DEPTH = range(6)
 CAUSES = {
@@ -34,7 +37,7 @@ class Malformed(Exception):
 
 
 class Path(NamedTuple):
-    """A distinct call path of a hart: its samples, how it ends, and its pcs, the innermost first."""
+    """A distinct call path of a column: its samples, how it ends, and its pcs, the innermost first."""
 
     samples: int
     end: int
@@ -43,12 +46,13 @@ class Path(NamedTuple):
 
 @dataclass
 class Measurement:
-    """The length and the entry address of the program's file, the period, and the paths of each hart."""
+    """The length and the entry address of the program's file, the events, each a number and a period, and the paths of each
+    column: hart by hart, and of each hart event by event. Version 1 has one event, retired instructions."""
 
     length: int
     entry: int
-    period: int
-    harts: List[List[Path]]
+    events: List[Tuple[int, int]]
+    columns: List[List[Path]]
 
 
 class _Words:
@@ -76,25 +80,40 @@ class _Words:
 
 def read(data):
     """The measurement that these bytes are, or Malformed."""
-    if data[:8] != MAGIC:
+    version = VERSIONS.get(data[:8])
+    if version is None:
         raise Malformed(0)
     words = _Words(data)
-    length, entry, period = words.word(), words.word(), words.word(1)
-    harts, samples, frames = [], 0, 0
-    for _ in range(words.word(1, MOST_HARTS)):
+    length, entry = words.word(), words.word()
+    events = [(RETIRED, words.word(1))] if version == 1 else _events(words)
+    columns, samples, frames = [], 0, 0
+    for _ in range(words.word(1, MOST_HARTS) * len(events)):
         paths, known = [], set()
         for _ in range(words.word()):
             path = _path(words, MOST_SAMPLES - samples, MOST_FRAMES - frames, known)
             samples, frames = samples + path.samples, frames + len(path.pcs)
             paths.append(path)
-        harts.append(paths)
+        columns.append(paths)
     if words.offset() != len(data):
         raise Malformed(words.offset())
-    return Measurement(length, entry, period, harts)
+    return Measurement(length, entry, events, columns)
+
+
+def _events(words):
+    """The events of version 2, which ascend and are not retired alone, with their periods."""
+    at, events, least = words.offset(), [], 0
+    count = words.word(1, len(EVENTS))
+    for _ in range(count):
+        number = words.word(least, len(EVENTS) - 1)
+        if count == 1 and number == RETIRED:
+            raise Malformed(at)
+        events.append((number, words.word(1)))
+        least = number + 1
+    return events
 
 
 def _path(words, samples, frames, known):
-    """The next path of a hart, of so many samples and frames at most, which is none of those that are known."""
+    """The next path of a column, of so many samples and frames at most, which is none of those that are known."""
     count, end = words.word(1, samples), words.word(WHOLE, DEPTH)
     depth = words.word(1, min(MOST_FRAMES_OF_PATH, frames))
     start = words.offset()
@@ -106,11 +125,11 @@ def _path(words, samples, frames, known):
     return Path(count, end, pcs)
 
 
-def causes(measurement, harts=None):
-    """For each cause of CAUSES that is met, how many samples it has, of all harts or of those with these numbers."""
+def causes(measurement):
+    """For each cause of CAUSES that is met, how many samples it has, of all harts and events."""
     found = Counter()
-    for number, paths in enumerate(measurement.harts):
+    for paths in measurement.columns:
         for path in paths:
-            if path.end != WHOLE and (harts is None or number in harts):
+            if path.end != WHOLE:
                 found[path.end] += path.samples
     return found

@@ -43,7 +43,7 @@ def write_json(out, database, options):
 def _table(database, options):
     """The heads of the columns, and the rows."""
     columns = [(shown, hart) for hart in options.shown.harts for shown in options.every]
-    heads = [f"hart {hart} {shown.event(database).name} {kind}" for shown, hart in columns for kind in KINDS]
+    heads = [f"{database.hart_name(hart)} {shown.event(database).name} {kind}" for shown, hart in columns for kind in KINDS]
     values = chain.from_iterable(_values(database.nodes, shown.plane(database, hart)) for shown, hart in columns)
     return [*FIELDS, *heads], map(_joined, _scopes(database, options), zip(*values))
 

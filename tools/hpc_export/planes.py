@@ -8,6 +8,7 @@ import struct
 from array import array
 from itertools import repeat
 
+from . import many_columns
 from .background import asked
 from .columns import ascend, numbers, packed, picked, whole, widened
 from .database import EXCLUSIVE, FRAME, INCLUSIVE, PROC, STMT, Malformed
@@ -15,6 +16,8 @@ from .fields import need_context
 
 MOST_SAMPLES = 1 << 20
 WIDTH = 32
+# So many columns are added up at once. Of more each is added up by itself (many_columns.py).
+MOST_PACKED = 64
 # So many nodes are worth a process.
 MANY = 1 << 16
 
@@ -25,10 +28,11 @@ def begin_planes(database):
     if not _are_samples(database):
         _find_profile(database)
     is_large = len(database.nodes) >= MANY
-    answers = [
-        asked(lambda: _is_profile(database, _sums(database)), is_large),
-        asked(lambda: _is_context(database, _sums(database)), is_large),
-    ]
+    if database.columns > MOST_PACKED:
+        questions = [lambda: many_columns.is_profile(database), lambda: many_columns.is_context(database)]
+    else:
+        questions = [lambda: _is_profile(database, _sums(database)), lambda: _is_context(database, _sums(database))]
+    answers = [asked(question, is_large) for question in questions]
 
     def finish():
         # Asked again, there is nothing left to wait for.
@@ -213,10 +217,10 @@ def _find_difference(nodes, plane, entries):
 
 
 def _find_context(database):
-    start, data, parts = database.context.offset, database.context.data, _Parts(database)
-    at = 0
-    for sums in _sums(database):
-        part = parts[sums]
+    start, data = database.context.offset, database.context.data
+    is_packed, at = database.columns <= MOST_PACKED, 0
+    parts = map(_Parts(database).__getitem__, _sums(database)) if is_packed else many_columns.parts(database)
+    for part in parts:
         for word in range(0, len(part), 4):
             if data[at + word : at + word + 4] != part[word : word + 4]:
                 # The second word of a value belongs to the field that begins at the first; a node's number of entries

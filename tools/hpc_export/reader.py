@@ -6,7 +6,7 @@ from . import rules
 from .database import Malformed
 
 # By the first 8 bytes.
-VERSIONS = {b"HPCPROF1": 1, b"HPCPROF2": 2}
+VERSIONS = {b"HPCPROF1": 1, b"HPCPROF2": 2, b"HPCPROF3": 3}
 
 
 def begin(data):

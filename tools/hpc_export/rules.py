@@ -2,7 +2,8 @@
 
 1. the first 8 bytes;
 2. every field lies in the file, tags are known, and nothing follows the last field (fields.py);
-3. events are 1 to 4, ascending, and not retired alone, which is version 1; periods are at least 1, harts 1 to 16;
+3. events are 1 to 4 and ascend, in version 2 not retired alone, which is version 1; periods are at least 1; version 3
+   has 2 to 16 runs; harts of a run are 1 to 64;
 4. procedures and files ascend, and each is used;
 5. the nodes are in preorder, siblings ascend, each scope stands where such a scope may stand;
 6. the profile plane ascends, and is what its exclusive values give (planes.py);
@@ -20,7 +21,7 @@ from .fields import need_context, read_fields
 from .planes import begin_planes
 
 MOST_NAME = 4096
-MOST_HARTS = 16
+MOST_HARTS, MOST_RUNS = 64, 16
 
 
 def begin(data, version):
@@ -44,7 +45,8 @@ def begin(data, version):
 
 def _check_head(database):
     numbers, before = [event.number for event in database.events], -1
-    if database.version > 1 and (not 1 <= len(numbers) <= len(EVENTS) or numbers == [0]):
+    is_version_1 = database.version == 2 and numbers == [0]
+    if database.version > 1 and (not 1 <= len(numbers) <= len(EVENTS) or is_version_1):
         raise Malformed(3, 8)
     for event in database.events:
         if not before < event.number < len(EVENTS):
@@ -52,8 +54,11 @@ def _check_head(database):
         if event.period < 1:
             raise Malformed(3, event.period_offset)
         before = event.number
-    if not 1 <= database.harts <= MOST_HARTS:
-        raise Malformed(3, database.harts_offset)
+    if database.version > 2 and not 2 <= len(database.runs) <= MOST_RUNS:
+        raise Malformed(3, database.runs_offset)
+    for place, harts in enumerate(database.runs):
+        if not 1 <= harts <= MOST_HARTS:
+            raise Malformed(3, database.runs_offset + 4 * place + (4 if database.version > 2 else 0))
 
 
 def _check_names(database):

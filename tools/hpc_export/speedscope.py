@@ -23,7 +23,7 @@ def write(out, database, options):
     for hart in harts:
         out.write(b"," if hart != harts[0] else b"")
         plane = options.shown.plane(database, hart)
-        name = f"hart {hart}" + (f", {options.shown.event(database).name}" if database.version > 1 else "")
+        name = database.hart_name(hart) + (f", {options.shown.event(database).name}" if database.version > 1 else "")
         out.write(b'{"type":"evented","name":%s,"unit":"none","startValue":0,' % _json(name))
         out.write(b'"endValue":%d,"events":[' % sum(plane.value))
         events = _events(frames, plane)

@@ -1,3 +1,4 @@
 pub mod Line
 pub mod Named
 pub mod Items
+pub mod Merged

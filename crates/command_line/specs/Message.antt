@@ -15,6 +15,9 @@ use Rattle.command_line.specs.declared.status.InputFault.TheVariants.{TooLong, S
 use Rattle.command_line.specs.declared.status.InputFault.TheVariants.{Entries, Lines, Structure}
 use Rattle.command_line.specs.declared.status.InputFault.TheVariants.{TooManySamples, TooManyFrames, TooManyScopes}
 use Rattle.command_line.specs.declared.status.InputFault.TheVariants.{Measurement, WrongProgram, Database, NoEvent}
+use Rattle.command_line.specs.declared.status.InputFault.TheVariants.{Merging}
+use Rattle.command_line.specs.declared.status.MergeFault.{MergeFault}
+use Rattle.command_line.specs.declared.status.MergeFault.TheVariants as merges
 use Rattle.command_line.specs.declared.status.Place.{Place}
 use Rattle.command_line.specs.declared.status.Place.TheVariants.{Read, Store, Print}
 use Rattle.command_line.specs.declared.status.Status.{Status}
@@ -63,6 +66,12 @@ structure_offset (structures.LinkCycle offset) = offset
 abbrev pub more_than : ℕ → List ℕ → List ℕ
 more_than limit things = codes "more than " ++ decimal limit ++ things
 
+-- what is refused in one of several measurements
+abbrev pub merge_text : MergeFault → List ℕ
+merge_text (merges.Measurement offset) = codes " at " ++ decimal offset
+merge_text (merges.WrongProgram kept_length kept_entry found_length found_entry) = codes " of another program"
+merge_text merges.MixedPeriods = codes " of other periods"
+
 -- what is refused in the files
 abbrev pub fault_text : InputFault → List ℕ
 fault_text (TooLong file limit) = (row_of file).word ++ codes " longer than " ++ decimal limit ++ codes " bytes"
@@ -83,6 +92,7 @@ fault_text (WrongProgram kept_length kept_entry found_length found_entry) =
     ++ codes " found " ++ decimal found_length ++ codes " " ++ decimal found_entry
 fault_text (Database offset rule) = codes "database rule " ++ decimal rule ++ codes " at " ++ decimal offset
 fault_text (NoEvent event) = codes "no event " ++ event_name event
+fault_text (Merging place fault) = codes "measurement " ++ decimal place ++ merge_text fault
 
 -- ---- the lines
 

@@ -1,12 +1,13 @@
 -- What a command line may ask for: a command with its numbers, and its files.
-use Rattle.std.specs.Prelude.{◌≡◌, ◌<◌, ◌≤◌, ℕ, List, [], ◌∷◌, map, Option}
+use Rattle.std.specs.Prelude.{◌≡◌, ◌≤◌, ℕ, List, [], ◌∷◌, map, replicate, Option}
 use Rattle.std.specs.Option.{option_copied}
 use Rattle.scope_types.specs.Events.{AreEvents}
-use Rattle.scope_types.specs.Limits.{most_workers}
+use Rattle.scope_types.specs.Limits.{most_runs, most_workers}
 use Rattle.command_line.specs.declared.kind.FileKind.{FileKind}
 use Rattle.command_line.specs.declared.kind.FileKind.TheVariants as kinds
 use Rattle.command_line.specs.declared.request.Command.{Command}
-use Rattle.command_line.specs.declared.request.Command.TheVariants.{Profile, Run, Prof, Struct, View, Drill}
+use Rattle.command_line.specs.declared.request.Command.TheVariants.{Profile, Run, Prof, Struct, View}
+use Rattle.command_line.specs.declared.request.Command.TheVariants.{Drill, Merge, Stats}
 use Rattle.command_line.specs.declared.request.Request as held
 use Rattle.command_line.specs.Kind.{Wanted, kinds_of, view_want}
 
@@ -24,23 +25,27 @@ view_request r = record { command = r.command; reads = map view_want r.reads; st
 abbrev pub AreWorkers : ℕ → Type 0
 AreWorkers workers = (1 ≤ workers) × (workers ≤ most_workers)
 
--- the events are those that a run may have, a period is above 0, and the number of workers is within its bounds
+-- the events are those that a run may have, and the numbers of workers and of runs are within their bounds
 abbrev pub IsCommand : Command → Type 0
 IsCommand (Profile periods workers) = AreEvents periods × AreWorkers workers
-IsCommand (Run period) = 0 < period
+IsCommand (Run periods) = AreEvents periods
 IsCommand (Prof workers) = AreWorkers workers
 IsCommand Struct = Unit {0}
 IsCommand (View table event) = Unit {0}
 IsCommand (Drill number workers) = AreWorkers workers
+IsCommand (Merge workers runs) = AreWorkers workers × (1 ≤ runs) × (runs ≤ most_runs)
+IsCommand (Stats kind event) = Unit {0}
 
 -- the kinds of the files that a command reads, in their order
 abbrev pub kinds_read : Command → List FileKind
 kinds_read (Profile periods workers) = kinds.Program ∷ kinds.Input ∷ kinds.Schedule ∷ []
-kinds_read (Run period) = kinds.Program ∷ kinds.Input ∷ kinds.Schedule ∷ []
+kinds_read (Run periods) = kinds.Program ∷ kinds.Input ∷ kinds.Schedule ∷ []
 kinds_read (Prof workers) = kinds.Program ∷ kinds.Measurement ∷ []
 kinds_read Struct = kinds.Program ∷ []
 kinds_read (View table event) = kinds.Database ∷ []
 kinds_read (Drill number workers) = []
+kinds_read (Merge workers runs) = kinds.Program ∷ replicate runs kinds.Measurement
+kinds_read (Stats kind event) = kinds.Database ∷ []
 
 -- the numbers are within their bounds, and the files are of the command's kinds
 pub record IsValid (r : Request) : Type 0 where

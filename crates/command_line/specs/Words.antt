@@ -1,5 +1,5 @@
 -- What the words of a command line ask for.
-use Rattle.std.specs.Prelude.{ℕ, ◌+◌, ◌==◌, nat_eq, nat_lt, Bool, true, ◌&&◌, if◌then◌else◌, List, [], ◌∷◌, ◌++◌}
+use Rattle.std.specs.Prelude.{ℕ, ◌+◌, ◌==◌, nat_eq, nat_le, nat_lt, Bool, true, ◌&&◌, if◌then◌else◌, List, [], ◌∷◌, ◌++◌}
 use Rattle.std.specs.Prelude.{length, map, take, drop, position, codes, Option, Some, None, option_map}
 use Rattle.std.specs.List.{list_all, slice_split}
 use Rattle.std.specs.Cmp.Lexicographic.{pointwise}
@@ -8,11 +8,14 @@ use Rattle.scope_types.specs.declared.event.Event.{Event}
 use Rattle.scope_types.specs.declared.event.Event.TheVariants.{Retired, Loads, Stores, Taken}
 use Rattle.scope_types.specs.declared.event.EventPeriod.{EventPeriod}
 use Rattle.scope_types.specs.Events.{event_name, event_number, retired_every}
-use Rattle.scope_types.specs.Limits.{most_workers}
+use Rattle.scope_types.specs.Limits.{most_runs, most_workers}
+use Rattle.tree_types.specs.declared.content.Kind.{Kind}
+use Rattle.tree_types.specs.declared.content.Kind.TheVariants.{Exclusive, Frame, Inclusive}
 use Rattle.command_line.specs.declared.kind.FileKind.{FileKind}
 use Rattle.command_line.specs.declared.kind.FileKind.TheVariants as kinds
 use Rattle.command_line.specs.declared.request.Command.{Command}
-use Rattle.command_line.specs.declared.request.Command.TheVariants.{Profile, Run, Prof, Struct, View, Drill}
+use Rattle.command_line.specs.declared.request.Command.TheVariants.{Profile, Run, Prof, Struct, View}
+use Rattle.command_line.specs.declared.request.Command.TheVariants.{Drill, Merge, Stats}
 use Rattle.command_line.specs.declared.request.ViewTable.{ViewTable}
 use Rattle.command_line.specs.declared.request.ViewTable.TheVariants.{Top, Callers, Flat}
 use Rattle.command_line.specs.Kind.{Wanted}
@@ -141,7 +144,7 @@ profile_words words = None
 -- `run ELF INPUT SCHEDULE PERIOD MEASURE`
 abbrev pub run_words : List (List ℕ) → Option Request
 run_words (elf ∷ input ∷ schedule ∷ period ∷ measurement ∷ []) =
-    asked (option_map Run (period_in period))
+    asked (option_map Run (periods_in period))
     (wanted kinds.Program elf ∷ wanted kinds.Input input ∷ wanted kinds.Schedule schedule ∷ []) (Some measurement)
 run_words words = None
 
@@ -191,12 +194,50 @@ drill_words (number ∷ workers ∷ []) =
     asked (of_both Drill (decimal_in 0 most_number number) (workers_in workers)) [] None
 drill_words words = None
 
+-- how many runs the measurements of these names are, each one run: as many as a profile may have. A name that is given
+-- twice is two
+abbrev pub runs_in : List (List ℕ) → Option ℕ
+runs_in names =
+    if nat_le 1 (length names) && nat_le (length names) most_runs then Some (length names) else None
+
+-- `merge ELF WORKERS DB MEASURE` and so on, with 1 to 16 measurements, whose runs are in the order of their names
+abbrev pub merge_words : List (List ℕ) → Option Request
+merge_words (elf ∷ workers ∷ database ∷ names) =
+    asked (of_both Merge (workers_in workers) (runs_in names))
+    (wanted kinds.Program elf ∷ map (wanted kinds.Measurement) names) (Some database)
+merge_words words = None
+
+-- the kind of values of this name
+abbrev pub kind_named : List ℕ → Option Kind
+kind_named word =
+    if is_word word (codes "exclusive") then Some Exclusive
+    else if is_word word (codes "frame") then Some Frame
+    else if is_word word (codes "inclusive") then Some Inclusive
+    else None
+
+-- the summary of values of the database's first event
+abbrev pub stats_first : Kind → Command
+stats_first kind = Stats kind None
+
+-- the summary of values of this event
+abbrev pub stats_event : Kind → Event → Command
+stats_event kind event = Stats kind (Some event)
+
+-- `stats DB KIND` and `stats DB KIND EVENT`, with the kinds of values `exclusive`, `frame` and `inclusive`
+abbrev pub stats_words : List (List ℕ) → Option Request
+stats_words (database ∷ kind ∷ []) =
+    asked (option_map stats_first (kind_named kind)) (wanted kinds.Database database ∷ []) None
+stats_words (database ∷ kind ∷ event ∷ []) =
+    asked (of_both stats_event (kind_named kind) (event_named event)) (wanted kinds.Database database ∷ []) None
+stats_words words = None
+
 -- all commands with their words
 abbrev pub usage_text : List ℕ
 usage_text =
     codes "usage: hpc profile ELF INPUT SCHEDULE PERIOD WORKERS DB | run ELF INPUT SCHEDULE PERIOD MEASURE"
     ++ codes " | prof ELF MEASURE WORKERS DB | struct ELF | view DB top|callers|flat [EVENT]"
-    ++ codes " | drill NUMBER WORKERS\n"
+    ++ codes " | drill NUMBER WORKERS | merge ELF WORKERS DB MEASURE .."
+    ++ codes " | stats DB exclusive|frame|inclusive [EVENT]\n"
 
 -- what the words ask for. `None`: the command line is invalid
 abbrev pub request_of : List (List ℕ) → Option Request
@@ -208,4 +249,6 @@ request_of (word ∷ rest) =
     else if is_word word (codes "struct") then struct_words rest
     else if is_word word (codes "view") then view_words rest
     else if is_word word (codes "drill") then drill_words rest
+    else if is_word word (codes "merge") then merge_words rest
+    else if is_word word (codes "stats") then stats_words rest
     else None

@@ -12,7 +12,7 @@ use std::alloc::Global;
 const MOST_PERIOD: u32 = u32::MAX;
 
 /// A period.
-pub(crate) fn period_in(word: &[u8]) -> Option<u32>
+fn period_in(word: &[u8]) -> Option<u32>
     ensures number { result ≡ period_in word.now }
     ensures range { IfSome result (λ n. 0 < n) }
 {

@@ -1,7 +1,7 @@
 //! The command line: what its words ask for, and the one line of each answer.
 //!
 //! It promises that a request is just what the definition makes of the words, and that each answer but `Done` puts its one
-//! line. The forms of the commands are this program's own. Below stand the crates whose faults the answers tell, the
+//! line. The forms of the commands are this program's own. Below lie the crates whose faults the answers tell, the
 //! streams, and the bytes.
 #![tactic(auto)]
 
@@ -15,5 +15,5 @@ mod words;
 pub use kind::{FileKind, KindRow, Want, row_of};
 pub use message::{out_of_memory, tell};
 pub use request::{Command, Request, ViewTable};
-pub use status::{InputFault, Place, Status};
+pub use status::{InputFault, MergeFault, Place, Status};
 pub use words::read_words;

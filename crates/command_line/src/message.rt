@@ -2,11 +2,11 @@
 ghost use Rattle.std.specs.Prelude.{◌≡◌, Some, IfOk, string_bytes};
 ghost use Rattle.scope_types.specs.Events.{event_name};
 ghost use Rattle.command_line.specs.Kind.{row_of};
-ghost use Rattle.command_line.specs.Message.{fault_text, info_offset, info_text, device_text, rule_text};
+ghost use Rattle.command_line.specs.Message.{fault_text, info_offset, info_text, device_text, merge_text, rule_text};
 ghost use Rattle.command_line.specs.Message.{structure_offset, structure_text, line_of, PutsLine, Says, StaysOrMemory};
 
 use crate::kind::{FileKind, row_of};
-use crate::status::{InputFault, Place, Status};
+use crate::status::{InputFault, MergeFault, Place, Status};
 use crate::words::USAGE;
 use dwarf_info::InfoFault;
 use dwarf_inline::StructureFault;
@@ -96,6 +96,18 @@ fn event_name(event: Event) -> &'static str
     }
 }
 
+impl fmt::Display for MergeFault {
+    ghost output = { λ fault. Some (merge_text fault) };
+
+    fn fmt<W: fmt::Write>(&self, f: &mut fmt::Formatter<W>) -> fmt::Result {
+        match self {
+            MergeFault::Measurement { offset } => write!(f, " at {offset}"),
+            MergeFault::WrongProgram { .. } => write!(f, " of another program"),
+            MergeFault::MixedPeriods => write!(f, " of other periods"),
+        }
+    }
+}
+
 impl fmt::Display for InputFault {
     ghost output = { λ fault. Some (fault_text fault) };
 
@@ -141,6 +153,7 @@ impl fmt::Display for InputFault {
                 let name = event_name(*event);
                 write!(f, "no event {name}")
             }
+            InputFault::Merging { place, fault } => write!(f, "measurement {place}{fault}"),
         }
     }
 }

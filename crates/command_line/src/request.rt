@@ -2,6 +2,7 @@
 use crate::kind::Want;
 use prof_bytes::Listed;
 use scope_types::{Event, EventPeriod};
+use tree_types::Kind;
 
 /// The tables that `view` puts.
 #[derive(Clone, Copy, Debug, PartialEq, Eq)]
@@ -11,9 +12,9 @@ pub enum ViewTable {
     Flat,
 }
 
-/// A command with what its words say beside files: the events with their periods, the period in retired instructions,
-/// the number of workers that merge, the table with its event (none: the database's first), and the number of a guest.
-/// Its files are in the request.
+/// A command with what its words say beside files: the events with their periods, the number of workers that merge, the
+/// table or the kind of values with its event (none: the database's first), the number of a guest, and how many runs
+/// there are, each with a measurement. Its files are in the request.
 #[derive(Debug, Drop)]
 pub enum Command {
     Profile {
@@ -21,7 +22,7 @@ pub enum Command {
         workers: u32,
     },
     Run {
-        period: u32,
+        periods: Listed<EventPeriod>,
     },
     Prof {
         workers: u32,
@@ -34,6 +35,14 @@ pub enum Command {
     Drill {
         number: u32,
         workers: u32,
+    },
+    Merge {
+        workers: u32,
+        runs: u32,
+    },
+    Stats {
+        kind: Kind,
+        event: Option<Event>,
     },
 }
 

@@ -5,6 +5,25 @@ use elf_image::ElfFault;
 use prof_bytes::Memory;
 use scope_types::Event;
 
+/// What is refused in one of several measurements.
+#[derive(Clone, Copy, Debug, PartialEq, Eq)]
+pub enum MergeFault {
+    /// It breaks a rule, at an offset in its file.
+    Measurement {
+        offset: u64,
+    },
+    /// It is of another program: the length and the entry address that it keeps are not those that were found in the
+    /// program's file.
+    WrongProgram {
+        kept_length: u32,
+        kept_entry: u32,
+        found_length: u32,
+        found_entry: u32,
+    },
+    /// Its events and periods are not those of the first measurement.
+    MixedPeriods,
+}
+
 /// What is refused in the files, and where.
 #[derive(Clone, Copy, Debug, PartialEq, Eq)]
 pub enum InputFault {
@@ -35,7 +54,7 @@ pub enum InputFault {
     },
     /// An entry is nested or linked too deep, at an offset in `.debug_info`.
     Structure(StructureFault),
-    /// The run has more than 1,048,576 samples.
+    /// The runs have more than 1,048,576 samples together.
     TooManySamples,
     /// The distinct call paths of the samples have more than 4,194,304 frames together.
     TooManyFrames,
@@ -61,6 +80,11 @@ pub enum InputFault {
     /// The database has not the event that was asked for.
     NoEvent {
         event: Event,
+    },
+    /// One of several measurements is refused: its place among them, from 0, and why.
+    Merging {
+        place: u32,
+        fault: MergeFault,
     },
 }
 

@@ -50,13 +50,19 @@ pub alone_spelled : (c : EventContent) (own : Content) → is_retired_alone c.ev
 unfolding database_spelling events_spelling
 alone_spelled c own alone one whole is = ap database_spelling (is ∙ whole) ∙ ap events_spelling (alone_again c alone one)
 
-pub alone_table : (c : EventContent) (own : Content) (text : List ℕ) (lines : List (List ℕ)) → lines ≡ [] ∷ [] → own ≡ content_of_event c 0 → text ++ content_table own ≡ text ++ tables_in lines c
-alone_table c own text lines none is =
-    ap (λ (q : Content). text ++ content_table q) is
-    ∙ ap (λ (t : List ℕ). text ++ t) (sym (append-nil (content_table (content_of_event c 0))))
+pub alone_table : (c : EventContent) (text : List ℕ) (lines : List (List ℕ)) → lines ≡ [] ∷ [] → text ++ content_table (content_of_event c 0) ≡ text ++ tables_in lines c
+alone_table c text lines none =
+    ap (λ (t : List ℕ). text ++ t) (sym (append-nil (content_table (content_of_event c 0))))
     ∙ ap (λ (ls : List (List ℕ)). text ++ tables_in ls c) (sym none)
 
-pub alone_both : {F : Type 0} (c : EventContent) (own : Content) (text : List ℕ) (lines : List (List ℕ)) (result : Result (List ℕ × List ℕ) F) → is_retired_alone c.events ≡ true → length c.runs ≡ 1 → content_of_event c 0 ≡ single_content c → own ≡ content_of_event c 0 → lines ≡ [] ∷ []
-    → IfOk result (λ both. (both.0 ≡ database_spelling own) × (both.1 ≡ text ++ content_table own)) → IfOk result (λ both. (both.0 ≡ events_spelling c) × (both.1 ≡ text ++ tables_in lines c))
-alone_both c own text lines (Ok both) alone one whole is none made = (made.0 ∙ alone_spelled c own alone one whole is, made.1 ∙ alone_table c own text lines none is)
-alone_both c own text lines (Err fail) alone one whole is none made = tt
+-- what is made of the one event
+pub alone_both : {F : Type 0} (c : EventContent) (own : Content) (text : List ℕ) (result : Result (List ℕ × List ℕ) F) → is_retired_alone c.events ≡ true → length c.runs ≡ 1 → content_of_event c 0 ≡ single_content c → own ≡ content_of_event c 0
+    → IfOk result (λ both. (both.0 ≡ database_spelling own) × (both.1 ≡ text ++ content_table own)) → IfOk result (λ both. (both.0 ≡ events_spelling c) × (both.1 ≡ text ++ content_table (content_of_event c 0)))
+alone_both c own text (Ok both) alone one whole is made = (made.0 ∙ alone_spelled c own alone one whole is, made.1 ∙ ap (λ (q : Content). text ++ content_table q) is)
+alone_both c own text (Err fail) alone one whole is made = tt
+
+-- and put after its line, which is empty
+pub alone_lines : {F : Type 0} (c : EventContent) (text : List ℕ) (lines : List (List ℕ)) (result : Result (List ℕ × List ℕ) F) → lines ≡ [] ∷ []
+    → IfOk result (λ both. (both.0 ≡ events_spelling c) × (both.1 ≡ text ++ content_table (content_of_event c 0))) → IfOk result (λ both. (both.0 ≡ events_spelling c) × (both.1 ≡ text ++ tables_in lines c))
+alone_lines c text lines (Ok both) none made = (made.0, made.1 ∙ alone_table c text lines none)
+alone_lines c text lines (Err fail) none made = tt

@@ -1,5 +1,5 @@
 -- A run whose samples were counted.
-use Rattle.std.proofs.Common.{◌≡◌, ℕ, ◌*◌, ◌<◌, ◌≤◌, List, length, map, All, Result, Ok, refl, sym, ap, subst, ◌∙◌}
+use Rattle.std.proofs.Common.{◌≡◌, ℕ, ◌*◌, ◌<◌, ◌≤◌, List, [], ◌∷◌, length, map, All, Result, Ok, refl, sym, ap, subst, ◌∙◌}
 use Rattle.prof_bytes.specs.declared.fail.Fail.{Fail}
 use Rattle.prof_bytes.specs.Outcome.{◌>>=◌, FailsBy}
 use Rattle.rv_run.specs.Progress.{to_come}
@@ -8,6 +8,7 @@ use Rattle.sample_clock.specs.Samples.{Paths, samples}
 use Rattle.sample_clock.specs.Clock.{Sampling}
 use Rattle.scope_types.specs.declared.event.EventPeriod.{EventPeriod}
 use Rattle.scope_types.specs.declared.frame.Counted.{Counted}
+use Rattle.scope_types.specs.Columns.{columns_of}
 use Rattle.scope_types.specs.Distinct.{ColumnRaw, distinct}
 use Rattle.scope_types.specs.Limits.{most_harts}
 use Rattle.command_line.specs.declared.status.InputFault.{InputFault}
@@ -17,7 +18,9 @@ use Rattle.hpc_top.specs.Samples.{column_raw, few_samples, run_columns, sampled}
 use Rattle.hpc_top.specs.private.Collecting.{AllCounted, IsStart, raws_to_come}
 use Rattle.hpc_top.specs.private.Counting.{Counts, IsCount}
 use Rattle.hpc_top.proofs.Addresses.{OfInstructions, samples_below}
+use Rattle.hpc_top.specs.private.Merging.{AreRuns}
 use Rattle.hpc_top.proofs.Faults.{fails_next}
+use Rattle.hpc_top.proofs.FewEvents.{one_of_runs, own_columns}
 
 module _ (path_of : Paths) (events : List EventPeriod) (harts : ℕ) (start : Sampling) (is : IsStart events start) where
   -- all samples are to come
@@ -79,10 +82,11 @@ module _ (events : List EventPeriod) (m : Measured) (run : CountedRun) (count : 
   pub columns_own : length run.ccts ≡ length run.samples.machine.state.harts * length events
   columns_own = count.columns ∙ (λ i. (count.ends i) * length (count.same i)) ∙ ap (λ (s : MachineState). length s.harts * length events) (sym count.final)
 
-  -- for a number of harts that is the run's
-  module _ (harts : ℕ) (are : harts ≡ run.harts) where
-    pub harts_here : (0 < harts) × (harts ≤ most_harts)
-    harts_here = subst (λ (n : ℕ). (0 < n) × (n ≤ most_harts)) (sym (are ∙ count.harts)) (count.some, count.few)
+  -- for one run with these harts
+  module _ (runs : List ℕ) (are : runs ≡ run.harts ∷ []) where
+    pub runs_here : AreRuns runs
+    runs_here = subst AreRuns (sym (are ∙ ap (λ (n : ℕ). n ∷ []) count.harts)) (one_of_runs m.harts count.some count.few)
 
-    pub columns_here : length run.ccts ≡ run_columns events harts
-    columns_here = count.columns ∙ (λ i. run_columns (count.same i) (sym (are ∙ count.harts) i))
+    pub columns_here : length run.ccts ≡ columns_of (length events) runs
+    columns_here =
+        count.columns ∙ sym (own_columns m.events m.harts) ∙ (λ i. columns_of (length (count.same i)) (sym (are ∙ ap (λ (n : ℕ). n ∷ []) count.harts) i))

@@ -41,7 +41,7 @@ module _ (by : Merging) (contents : ContentsAlike) (tables : TablesAlike) (each 
       let a : Attributed = p.attributed in
       let content : r.merged.content ≡ event_content a (call_paths_of a) = all_content by contents tables each a r.merged is.merged whole in
       let database : events_spelling r.merged.content ≡ (attribution_of a).stored = ap events_spelling content in
-      let many = nodes_long a.events (a.harts ∷ []) (naming_of a.scopes) (call_paths_of a) r.merged.content content in
+      let many = nodes_long a.events a.runs (naming_of a.scopes) (call_paths_of a) r.merged.content content in
       λ i. drill_lines number (retired_by p.measured.final) (length p.measured.samples) (many i) (database i)
 
   pub drilled_is : (number : ℕ) (events : List EventPeriod) (wanted : Result Profiled InputFault) (r : ProfiledRun) (made : Product) → Profiles by events (Ok r) wanted

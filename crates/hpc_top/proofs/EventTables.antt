@@ -8,7 +8,8 @@ use Rattle.scope_types.specs.declared.event.EventPeriod.{EventPeriod}
 use Rattle.scope_types.specs.CallPaths.{ColumnPath}
 use Rattle.tree_types.specs.declared.content.EventContent.{EventContent}
 use Rattle.tree_types.specs.OfContent.{content_of_event, content_table}
-use Rattle.hpc_top.specs.Attribution.{Attributed, event_tables, line_of_event, table_of_event}
+use Rattle.run_report.specs.Report.{line_of_event}
+use Rattle.hpc_top.specs.Attribution.{Attributed, event_tables, table_of_event}
 use Rattle.hpc_top.specs.private.EventTexts.{line_and_table, lines_of_events, tables_in}
 use Rattle.hpc_top.specs.private.Merging.{HasTables}
 

@@ -1,14 +1,16 @@
 -- The events of a run are four at most, and its columns are those of one run.
-use Rattle.std.proofs.Common.{◌≡◌, ℕ, ◌+◌, ◌*◌, ◌^◌, ◌<◌, ◌≤◌, List, [], ◌∷◌, length, sum, Fits, w32, rules, ap, arith}
+use Rattle.std.proofs.Common.{◌≡◌, ℕ, ◌+◌, ◌*◌, ◌^◌, ◌<◌, ◌≤◌, List, [], ◌∷◌, length, sum, All, Fits, w32, rules, ap, arith}
 use Rattle.std.proofs.lemmas.Nat.{mul-le}
-use Rattle.std.proofs.lemmas.List.Elements.{All-cons, All-nil}
+use Rattle.std.proofs.lemmas.List.Elements.{All-cons, All-head, All-nil, All-tail}
+use Rattle.std.proofs.lemmas.List.Sums.{sum_by-cons}
 use Rattle.scope_types.specs.declared.event.Event.{Event}
 use Rattle.scope_types.specs.declared.event.Event.TheVariants.{Retired, Loads, Stores, Taken}
 use Rattle.scope_types.specs.declared.event.EventPeriod.{EventPeriod}
 use Rattle.scope_types.specs.Columns.{columns_of}
-use Rattle.scope_types.specs.Events.{AreAscending, AreEvents, event_number, retired_every}
+use Rattle.scope_types.specs.Events.{AreAscending, AreEvents, event_number}
 use Rattle.scope_types.specs.Limits.{most_harts}
 use Rattle.hpc_top.specs.Samples.{run_columns}
+use Rattle.hpc_top.specs.private.Merging.{AreRuns}
 
 below_four : (e : Event) → event_number e < 4
 below_four Retired = omega arith
@@ -34,18 +36,31 @@ pub own_columns : (events : List EventPeriod) (harts : ℕ) → columns_of (leng
 own_columns events harts = ap (λ (n : ℕ). n * length events) (one_run harts)
 
 pub few_columns : (events : List EventPeriod) (harts : ℕ) → AreEvents events → harts ≤ most_harts → run_columns events harts < 2 ^ 32
-few_columns events harts are few = (let most : harts * length events ≤ 16 * 4 = mul-le harts (length events) 16 4 few (few_events events are) in omega (arith, most))
+few_columns events harts are few = (let most : harts * length events ≤ 64 * 4 = mul-le harts (length events) 64 4 few (few_events events are) in omega (arith, most))
 
--- retired instructions with their period
-abbrev pub retired_with : ℕ → EventPeriod
-retired_with period = record { event = Retired; period = period }
-
-pub retired_are : (period : ℕ) → 1 ≤ period → AreEvents (retired_every period)
-retired_are period some = record {
+-- one run is as runs may be
+pub one_of_runs : (harts : ℕ) → 0 < harts → harts ≤ most_harts → AreRuns (harts ∷ [])
+one_of_runs harts some few = record {
   some = omega arith;
-  ascending = tt;
-  periods = All-cons (λ (e : EventPeriod). 1 ≤ e.period) (retired_with period) [] some (All-nil (λ (e : EventPeriod). 1 ≤ e.period));
+  few = omega arith;
+  harts = All-cons (λ (h : ℕ). (0 < h) × (h ≤ most_harts)) harts [] (some, few) (All-nil (λ (h : ℕ). (0 < h) × (h ≤ most_harts)));
 }
+
+-- the harts of several runs are few enough that each column has a number
+pub harts_few : (runs : List ℕ) → All (λ h. (0 < h) × (h ≤ most_harts)) runs → sum runs ≤ length runs * 64
+harts_few [] all = omega arith
+harts_few (h ∷ runs) all =
+    let first = (All-head (λ (h : ℕ). (0 < h) × (h ≤ most_harts)) h runs all).1 in
+    let rest = harts_few runs (All-tail (λ (h : ℕ). (0 < h) × (h ≤ most_harts)) h runs all) in
+    let whole = sum_by-cons (λ (n : ℕ). n) h runs in
+    omega (arith, first, rest, whole)
+
+pub runs_columns : (events : List EventPeriod) (runs : List ℕ) → AreEvents events → AreRuns runs → columns_of (length events) runs < 2 ^ 32
+runs_columns events runs are of =
+    let few = of.few in
+    let harts = harts_few runs of.harts in
+    let most : sum runs * length events ≤ 1024 * 4 = mul-le (sum runs) (length events) 1024 4 (omega (arith, few, harts)) (few_events events are) in
+    omega (arith, most)
 
 -- a number of 32 bits
 pub word_fits : (n : ℕ) → n < 2 ^ 32 → Fits w32 n

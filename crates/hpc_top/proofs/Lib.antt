@@ -7,6 +7,7 @@ pub mod Products
 pub mod Collecting
 pub mod Contents
 pub mod FewEvents
+pub mod FewProfiles
 pub mod EventTables
 pub mod EventLines
 pub mod Alone
@@ -22,9 +23,16 @@ pub mod FoundNumbers
 pub mod Scheduled
 pub mod Ran
 pub mod Apart
+pub mod KeptRuns
+pub mod FewMeasured
+pub mod MergedRuns
 pub mod Tables
+pub mod Summaries
 pub mod FewNodes
 pub mod PathNumbers
 pub mod ScopesRead
 pub mod StoredSamples
+pub mod StoredRuns
+pub mod FlatTables
+pub mod Reordered
 pub mod Refused

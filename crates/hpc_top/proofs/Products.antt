@@ -1,5 +1,5 @@
 -- What is made of a run's samples that were counted, planned and merged.
-use Rattle.std.proofs.Common.{◌≡◌, ℕ, ◌<◌, nat_lt, Bool, true, false, if◌then◌else◌, IsTrue, List, [], ◌∷◌, ◌++◌, length, All, Result, Ok, Err, refl, sym, ap, subst, ◌∙◌, arith}
+use Rattle.std.proofs.Common.{◌≡◌, ℕ, ◌<◌, nat_lt, Bool, true, false, if◌then◌else◌, IsTrue, List, [], ◌∷◌, ◌++◌, length, sum, All, Result, Ok, Err, refl, sym, ap, subst, ◌∙◌, arith}
 use Rattle.prof_bytes.specs.declared.fail.Fail.{Fail}
 use Rattle.prof_bytes.specs.declared.fail.Fail.TheVariants as fails
 use Rattle.prof_bytes.specs.Outcome.{◌>>=◌, FailsBy}
@@ -8,7 +8,7 @@ use Rattle.scope_types.specs.declared.frame.Counted.{Counted}
 use Rattle.scope_types.specs.Alike.{Alike}
 use Rattle.scope_types.specs.declared.scope.Scope.{Scope}
 use Rattle.scope_types.specs.CallPaths.{ColumnPath}
-use Rattle.scope_types.specs.Columns.{paths_of_event}
+use Rattle.scope_types.specs.Columns.{columns_of, paths_of_event}
 use Rattle.scope_types.specs.Raw.{Raw}
 use Rattle.scope_types.specs.Expansion.{call_path}
 use Rattle.scope_find.specs.Found.{ProgramScopes, found_at, naming_of}
@@ -39,7 +39,6 @@ use Rattle.hpc_top.specs.Merged.{IsMadeOf, MakesBy, Merging, sample_plan}
 use Rattle.hpc_top.specs.Product.{Product}
 use Rattle.hpc_top.specs.commands.Profile.{Profiled, product_of, profile_of, profiled, profiled_of}
 use Rattle.hpc_top.specs.private.Counting.{IsCount}
-use Rattle.hpc_top.specs.Samples.{run_columns}
 use Rattle.hpc_top.specs.private.EventTexts.{lines_of_events, tables_in}
 use Rattle.hpc_top.specs.private.Merging.{HasTables, IsMergeOf, Merges, few_planned}
 use Rattle.hpc_top.specs.private.Profiling.{IsMadeBy, IsProfileOf, Profiles}
@@ -74,7 +73,7 @@ EventsAlike = (events place : ℕ) (ps qs : List ColumnPath) → Alike ps qs →
 pub same_tables : TablesAlike → EventsAlike → (a : Attributed) (ps qs : List ColumnPath) → Alike ps qs → (c : EventContent) → HasTables c a ps → HasTables c a qs
 same_tables tables each a ps qs alike c has place event is =
     has place event is
-    ∙ tables event.period a.harts (naming_of a.scopes) (paths_of_event (length a.events) place ps) (paths_of_event (length a.events) place qs) (each (length a.events) place ps qs alike)
+    ∙ tables event.period (sum a.runs) (naming_of a.scopes) (paths_of_event (length a.events) place ps) (paths_of_event (length a.events) place qs) (each (length a.events) place ps qs alike)
 
 -- what the stripes' law says
 abbrev pub SamplesHeld : Type 0
@@ -86,9 +85,9 @@ names_all : (crew : Crew) (plan : Chunks) → crew.stripes.view.plan ≡ plan �
 names_all crew plan is each c s chunk stripe = (let one = each s c stripe (subst (λ (p : Chunks). c < length p) is chunk) in omega (arith, one))
 
 -- samples, or too many scopes
-abbrev pub scopes_decide : ProgramScopes → List EventPeriod → ℕ → List ColumnRaw → Bool → Result Attributed InputFault
-scopes_decide scopes events harts samples many =
-    (if many then Err TooManyScopes else Ok samples) >>= λ samples. Ok (record { scopes = scopes; events = events; harts = harts; samples = samples })
+abbrev pub scopes_decide : ProgramScopes → List EventPeriod → List ℕ → List ColumnRaw → Bool → Result Attributed InputFault
+scopes_decide scopes events runs samples many =
+    (if many then Err TooManyScopes else Ok samples) >>= λ samples. Ok (record { scopes = scopes; events = events; runs = runs; samples = samples })
 
 -- a plan, or too many scopes
 planned : (ccts : List (List Counted)) (many : Bool) (plan : Planned) → (if many then Err TooManyScopes else Ok (plan_of ccts)) ≡ Ok plan → (many ≡ false) × (plan ≡ plan_of ccts)
@@ -100,21 +99,21 @@ unplanned ccts true fault e = (refl, (let same : fault ≡ TooManyScopes = cc in
 unplanned ccts false fault e = absurd cc
 
 -- what is attributed
-pub attributed_as : (scopes : ProgramScopes) (events : List EventPeriod) (harts : ℕ) (samples : List ColumnRaw) (a : Attributed) → attributed scopes events harts samples ≡ Ok a → a ≡ record { scopes = scopes; events = events; harts = harts; samples = samples }
-attributed_as scopes events harts samples a is = tested (nat_lt most_scopes_in_all (scopes_in (call_path (found_at scopes)) (distinct (run_columns events harts) samples))) is
+pub attributed_as : (scopes : ProgramScopes) (events : List EventPeriod) (runs : List ℕ) (samples : List ColumnRaw) (a : Attributed) → attributed scopes events runs samples ≡ Ok a → a ≡ record { scopes = scopes; events = events; runs = runs; samples = samples }
+attributed_as scopes events runs samples a is = tested (nat_lt most_scopes_in_all (scopes_in (call_path (found_at scopes)) (distinct (columns_of (length events) runs) samples))) is
   where
-    tested : (many : Bool) → scopes_decide scopes events harts samples many ≡ Ok a → a ≡ record { scopes = scopes; events = events; harts = harts; samples = samples }
+    tested : (many : Bool) → scopes_decide scopes events runs samples many ≡ Ok a → a ≡ record { scopes = scopes; events = events; runs = runs; samples = samples }
     tested true e = absurd cc
-    tested false e = (let same : a ≡ record { scopes = scopes; events = events; harts = harts; samples = samples } = cc in same)
+    tested false e = (let same : a ≡ record { scopes = scopes; events = events; runs = runs; samples = samples } = cc in same)
 
-module _ (scopes : ProgramScopes) (events : List EventPeriod) (harts : ℕ) (ccts : List (List Counted)) (samples : List ColumnRaw) (counts : ccts ≡ distinct (run_columns events harts) samples) where
+module _ (scopes : ProgramScopes) (events : List EventPeriod) (runs : List ℕ) (ccts : List (List Counted)) (samples : List ColumnRaw) (counts : ccts ≡ distinct (columns_of (length events) runs) samples) where
   abbrev expand : Raw → List Scope
   expand = call_path (found_at scopes)
 
-  by_scopes : (many : Bool) → nat_lt most_scopes_in_all (scopes_in expand ccts) ≡ many → attributed scopes events harts samples ≡ scopes_decide scopes events harts samples many
-  by_scopes many is = ap (scopes_decide scopes events harts samples) (ap (λ (ts : List (List Counted)). nat_lt most_scopes_in_all (scopes_in expand ts)) (sym counts) ∙ is)
+  pub by_scopes : (many : Bool) → nat_lt most_scopes_in_all (scopes_in expand ccts) ≡ many → attributed scopes events runs samples ≡ scopes_decide scopes events runs samples many
+  by_scopes many is = ap (scopes_decide scopes events runs samples) (ap (λ (ts : List (List Counted)). nat_lt most_scopes_in_all (scopes_in expand ts)) (sym counts) ∙ is)
 
-  refused_plan : (fail : Fail InputFault) → FailsBy fail (few_planned expand ccts) → FailsBy fail (attributed scopes events harts samples)
+  refused_plan : (fail : Fail InputFault) → FailsBy fail (few_planned expand ccts) → FailsBy fail (attributed scopes events runs samples)
   refused_plan (fails.Fault fault) refused =
       let is = unplanned ccts (nat_lt most_scopes_in_all (scopes_in expand ccts)) fault refused in
       by_scopes true is.0 ∙ ap Err (sym is.1)
@@ -125,34 +124,34 @@ pub plan_columns : (expand : Raw → List Scope) (ccts : List (List Counted)) (p
 plan_columns expand ccts plan planned_by = ap (λ (p : Planned). p.columns) (planned ccts (nat_lt most_scopes_in_all (scopes_in expand ccts)) plan planned_by).1
 
 -- where what expands raw paths is over the same program
-pub refused_of : (events : List EventPeriod) (harts : ℕ) (ccts : List (List Counted)) (samples : List ColumnRaw) → ccts ≡ distinct (run_columns events harts) samples → (expander finder : ProgramScopes) → expander ≡ finder → (fail : Fail InputFault)
-    → FailsBy fail (few_planned (call_path (found_at expander)) ccts) → FailsBy fail (attributed finder events harts samples)
-refused_of events harts ccts samples counts expander finder same fail refused =
-    subst (λ (q : ProgramScopes). FailsBy fail (attributed q events harts samples)) same (refused_plan expander events harts ccts samples counts fail refused)
+pub refused_of : (events : List EventPeriod) (runs : List ℕ) (ccts : List (List Counted)) (samples : List ColumnRaw) → ccts ≡ distinct (columns_of (length events) runs) samples → (expander finder : ProgramScopes) → expander ≡ finder → (fail : Fail InputFault)
+    → FailsBy fail (few_planned (call_path (found_at expander)) ccts) → FailsBy fail (attributed finder events runs samples)
+refused_of events runs ccts samples counts expander finder same fail refused =
+    subst (λ (q : ProgramScopes). FailsBy fail (attributed q events runs samples)) same (refused_plan expander events runs ccts samples counts fail refused)
 
 -- the samples of a merge
-abbrev samples_as : ProgramScopes → List EventPeriod → ℕ → List ColumnRaw → Attributed
-samples_as scopes events harts samples = record { scopes = scopes; events = events; harts = harts; samples = samples }
+abbrev samples_as : ProgramScopes → List EventPeriod → List ℕ → List ColumnRaw → Attributed
+samples_as scopes events runs samples = record { scopes = scopes; events = events; runs = runs; samples = samples }
 
 -- the tables of all places are those of all events
-pub tables_of : (scopes : ProgramScopes) (events : List EventPeriod) (harts : ℕ) (samples : List ColumnRaw) (ps : List ColumnPath) (c : EventContent)
-    → ((place : ℕ) → place < length events → content_table (content_of_event c place) ≡ top_down (period_at events place) harts (naming_of scopes) (paths_of_event (length events) place ps)) → HasTables c (samples_as scopes events harts samples) ps
-tables_of scopes events harts samples ps c each place event is =
+pub tables_of : (scopes : ProgramScopes) (events : List EventPeriod) (runs : List ℕ) (samples : List ColumnRaw) (ps : List ColumnPath) (c : EventContent)
+    → ((place : ℕ) → place < length events → content_table (content_of_event c place) ≡ top_down (period_at events place) (sum runs) (naming_of scopes) (paths_of_event (length events) place ps)) → HasTables c (samples_as scopes events runs samples) ps
+tables_of scopes events runs samples ps c each place event is =
     each place (there_within events place event is)
-    ∙ ap (λ (period : ℕ). top_down period harts (naming_of scopes) (paths_of_event (length events) place ps)) (period_there events place event is)
+    ∙ ap (λ (period : ℕ). top_down period (sum runs) (naming_of scopes) (paths_of_event (length events) place ps)) (period_there events place event is)
 
-pub merge_is : (by : Merging) (scopes : ProgramScopes) (events : List EventPeriod) (harts : ℕ) (ccts : List (List Counted)) (samples : List ColumnRaw) → ccts ≡ distinct (run_columns events harts) samples → SamplesHeld → All (λ s. s.column < run_columns events harts) samples → (plan : Planned) (m : Merged)
+pub merge_is : (by : Merging) (scopes : ProgramScopes) (events : List EventPeriod) (runs : List ℕ) (ccts : List (List Counted)) (samples : List ColumnRaw) → ccts ≡ distinct (columns_of (length events) runs) samples → SamplesHeld → All (λ s. s.column < columns_of (length events) runs) samples → (plan : Planned) (m : Merged)
     → few_planned (call_path (found_at scopes)) ccts ≡ Ok plan → by.gives m.crew → IsOfPlan (expanded plan (call_path (found_at scopes))) m.crew → (IsTrue by.whole → IsWhole (expanded plan (call_path (found_at scopes))) by.workers m.crew)
-    → m.content ≡ event_content_of events (harts ∷ []) (naming_of scopes) (named_paths m.crew.stripes) → HasTables m.content (samples_as scopes events harts samples) (named_paths m.crew.stripes)
-    → Merges by (Ok m) (attributed scopes events harts samples)
-merge_is by scopes events harts ccts samples counts held own plan m planned_by gives of whole content_is tables =
+    → m.content ≡ event_content_of events runs (naming_of scopes) (named_paths m.crew.stripes) → HasTables m.content (samples_as scopes events runs samples) (named_paths m.crew.stripes)
+    → Merges by (Ok m) (attributed scopes events runs samples)
+merge_is by scopes events runs ccts samples counts held own plan m planned_by gives of whole content_is tables =
     let expand : Raw → List Scope = call_path (found_at scopes) in
     let is = planned ccts (nat_lt most_scopes_in_all (scopes_in expand ccts)) plan planned_by in
-    let a : Attributed = samples_as scopes events harts samples in
+    let a : Attributed = samples_as scopes events runs samples in
     let is_plan : expanded plan expand ≡ sample_plan a = ap (λ (p : Planned). expanded p expand) is.1 ∙ ap (λ (ts : List (List Counted)). expanded (plan_of ts) expand) counts in
     let plan_is : m.crew.stripes.view.plan ≡ sample_plan a = of.plan ∙ is_plan in (
       a,
-      by_scopes scopes events harts ccts samples counts false is.0,
+      by_scopes scopes events runs ccts samples counts false is.0,
       record {
         gives = gives;
         plan = subst (λ (chunks : Chunks). IsOfPlan chunks m.crew) is_plan of;
@@ -161,26 +160,26 @@ merge_is by scopes events harts ccts samples counts held own plan m planned_by g
         crew = λ all_merged. subst (λ (chunks : Chunks). IsWhole chunks by.workers m.crew) is_plan (whole all_merged);
         paths = λ all_merged.
             let fit : AllFit m.crew.stripes.view.plan m.crew.stripes.stripes = subst (λ (chunks : Chunks). AllFit chunks m.crew.stripes.stripes) (sym of.plan) of.fit in
-            held m.crew.stripes (run_columns events harts) samples expand fit (names_all m.crew (expanded plan expand) of.plan (whole all_merged).names) plan_is own;
+            held m.crew.stripes (columns_of (length events) runs) samples expand fit (names_all m.crew (expanded plan expand) of.plan (whole all_merged).names) plan_is own;
       },
     )
 
 -- ---- a run's profile
 
-module _ (scopes : ProgramScopes) (events : List EventPeriod) (m : Measured) (run : CountedRun) (count : IsCount events m run) (harts : ℕ) (are : harts ≡ run.harts) where
+module _ (scopes : ProgramScopes) (events : List EventPeriod) (m : Measured) (run : CountedRun) (count : IsCount events m run) (runs : List ℕ) (are : runs ≡ run.harts ∷ []) where
   -- what is attributed of the run, by the events and harts that are known of it
-  own_attributed : attributed scopes events harts m.samples ≡ attributed scopes m.events m.harts m.samples
-  own_attributed = (λ i. attributed scopes (sym count.same i) ((are ∙ count.harts) i) m.samples)
+  own_attributed : attributed scopes events runs m.samples ≡ attributed scopes m.events (m.harts ∷ []) m.samples
+  own_attributed = (λ i. attributed scopes (sym count.same i) ((are ∙ ap (λ (n : ℕ). n ∷ []) count.harts) i) m.samples)
 
-  pub refused_merge : (fail : Fail InputFault) → FailsBy fail (attributed scopes events harts m.samples) → FailsBy fail (profiled scopes m)
+  pub refused_merge : (fail : Fail InputFault) → FailsBy fail (attributed scopes events runs m.samples) → FailsBy fail (profiled scopes m)
   refused_merge fail refused =
-      fails_next (λ a. Ok (record { measured = m; attributed = a })) fail (attributed scopes m.events m.harts m.samples)
+      fails_next (λ a. Ok (record { measured = m; attributed = a })) fail (attributed scopes m.events (m.harts ∷ []) m.samples)
       (subst (FailsBy fail) own_attributed refused)
 
-  pub profiled_is : (by : Merging) (r : Merged) → Merges by (Ok r) (attributed scopes events harts m.samples) → IsEventProfile r.content → length r.content.runs ≡ 1 → r.content.events ≡ events → Profiles by events (Ok (record { run = run; merged = r })) (profiled scopes m)
+  pub profiled_is : (by : Merging) (r : Merged) → Merges by (Ok r) (attributed scopes events runs m.samples) → IsEventProfile r.content → length r.content.runs ≡ 1 → r.content.events ≡ events → Profiles by events (Ok (record { run = run; merged = r })) (profiled scopes m)
   profiled_is by r (a, is, merged) profile run_is events_is =
-      let here : attributed scopes m.events m.harts m.samples ≡ Ok a = sym own_attributed ∙ is in
-      let same : a ≡ samples_as scopes m.events m.harts m.samples = attributed_as scopes m.events m.harts m.samples a here in (
+      let here : attributed scopes m.events (m.harts ∷ []) m.samples ≡ Ok a = sym own_attributed ∙ is in
+      let same : a ≡ samples_as scopes m.events (m.harts ∷ []) m.samples = attributed_as scopes m.events (m.harts ∷ []) m.samples a here in (
         record { measured = m; attributed = a },
         ap (λ (r : Result Attributed InputFault). r >>= λ a. Ok (record { measured = m; attributed = a })) here,
         record {
@@ -210,7 +209,7 @@ made_by m merged made crew database report text lines = record {
 
 module _ (by : Merging) (contents : ContentsAlike) (tables : TablesAlike) (each : EventsAlike) where
   pub all_content : (a : Attributed) (m : Merged) → IsMergeOf by a m → IsTrue by.whole → m.content ≡ event_content a (call_paths_of a)
-  all_content a m is all_merged = is.content ∙ contents a.events (a.harts ∷ []) (naming_of a.scopes) (named_paths m.crew.stripes) (call_paths_of a) (is.paths all_merged)
+  all_content a m is all_merged = is.content ∙ contents a.events a.runs (naming_of a.scopes) (named_paths m.crew.stripes) (call_paths_of a) (is.paths all_merged)
 
   all_tables : (a : Attributed) (m : Merged) → IsMergeOf by a m → IsTrue by.whole → HasTables m.content a (call_paths_of a)
   all_tables a m is all_merged = same_tables tables each a (named_paths m.crew.stripes) (call_paths_of a) (is.paths all_merged) m.content is.tables

@@ -1,5 +1,5 @@
 -- What the drill of a number may be refused for.
-use Rattle.std.proofs.Common.{◌≡◌, ◌⊎◌, inl, inr, ℕ, ◌≤◌, nat_lt, Bool, true, false, cond, List, [], length, map, take, All, codes, Result, Ok, Err, IsOk, refl, sym, ap, subst, ◌∙◌, arith, le-ltb, lit<}
+use Rattle.std.proofs.Common.{◌≡◌, ◌⊎◌, inl, inr, ℕ, ◌≤◌, nat_lt, Bool, true, false, cond, List, [], ◌∷◌, length, map, take, All, codes, Result, Ok, Err, IsOk, refl, sym, ap, subst, ◌∙◌, arith, le-ltb, lit<}
 use Rattle.std.proofs.lemmas.List.{length-map}
 use Rattle.prof_bytes.specs.Outcome.{◌>>=◌}
 use Rattle.elf_image.specs.declared.part.Segment.{Segment}
@@ -26,6 +26,7 @@ use Rattle.scope_find.specs.Found.{ProgramScopes, found_at}
 use Rattle.scope_types.specs.declared.scope.Scope.{Scope}
 use Rattle.scope_types.specs.declared.event.EventPeriod.{EventPeriod}
 use Rattle.scope_types.specs.Distinct.{ColumnRaw, distinct, frames_in, scopes_in}
+use Rattle.scope_types.specs.Columns.{columns_of}
 use Rattle.scope_types.specs.Events.{retired_every}
 use Rattle.scope_types.specs.Expansion.{call_path}
 use Rattle.scope_types.specs.Limits.{most_frames_in_all, most_samples, most_scopes_in_all}
@@ -85,11 +86,11 @@ run_limited path_of events harts run few =
 profiled_limited : (scopes : ProgramScopes) (m : Measured) → Limited (profiled scopes m)
 profiled_limited scopes m =
     let expand : Raw → List Scope = call_path (found_at scopes) in
-    let made : List ColumnRaw → Result Attributed InputFault = λ all. Ok (record { scopes = scopes; events = m.events; harts = m.harts; samples = all }) in
+    let made : List ColumnRaw → Result Attributed InputFault = λ all. Ok (record { scopes = scopes; events = m.events; runs = m.harts ∷ []; samples = all }) in
     let whole : Attributed → Result Profiled InputFault = λ a. Ok (record { measured = m; attributed = a }) in
-    limited_then (attributed scopes m.events m.harts m.samples) whole
-    (limited_then (within_scopes expand (run_columns m.events m.harts) m.samples) made (limited_test (nat_lt most_scopes_in_all (scopes_in expand (distinct (run_columns m.events m.harts) m.samples))) TooManyScopes m.samples (inr refl))
-    (λ all. limited_ok (let a : Attributed = record { scopes = scopes; events = m.events; harts = m.harts; samples = all } in a)))
+    limited_then (attributed scopes m.events (m.harts ∷ []) m.samples) whole
+    (limited_then (within_scopes expand (columns_of (length m.events) (m.harts ∷ [])) m.samples) made (limited_test (nat_lt most_scopes_in_all (scopes_in expand (distinct (columns_of (length m.events) (m.harts ∷ [])) m.samples))) TooManyScopes m.samples (inr refl))
+    (λ all. limited_ok (let a : Attributed = record { scopes = scopes; events = m.events; runs = m.harts ∷ []; samples = all } in a)))
     (λ a. limited_ok (let p : Profiled = record { measured = m; attributed = a } in p))
 
 -- ---- what is read

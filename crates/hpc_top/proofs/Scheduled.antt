@@ -48,10 +48,10 @@ bounds low high word n is =
 
 -- ---- schedules
 
-harts_bounds : (line : List ℕ) (n : ℕ) → harts_in line ≡ Some n → (1 ≤ n) × (n ≤ 16)
+harts_bounds : (line : List ℕ) (n : ℕ) → harts_in line ≡ Some n → (1 ≤ n) × (n ≤ 64)
 harts_bounds line n is = split (starts_with nat_eq line harts_word) is
   where
-    split : (t : Bool) → cond t (decimal_in 1 most_harts (drop 6 line)) None ≡ Some n → (1 ≤ n) × (n ≤ 16)
+    split : (t : Bool) → cond t (decimal_in 1 most_harts (drop 6 line)) None ≡ Some n → (1 ≤ n) × (n ≤ 64)
     split true e = bounds 1 most_harts (drop 6 line) n e
     split false e = absurd cc
 
@@ -83,7 +83,7 @@ slices_own harts used (line ∷ rest) slices some is =
 
 pub record IsOwn (s : Scheduled) : Type 0 where
   pub some : 1 ≤ s.harts
-  pub few : s.harts ≤ 16
+  pub few : s.harts ≤ 64
   pub slices : AllByRecursion (λ slice. slice.hart < s.harts) s.slices
 
 schedule_own : (end : ℕ) (all : List NumberedLine) (s : Scheduled) → schedule_in end all ≡ Ok s → IsOwn s

@@ -27,7 +27,6 @@ use Rattle.view_tables.specs.Callers.{callers}
 use Rattle.view_tables.specs.Flat.{flat}
 use Rattle.command_line.specs.declared.status.InputFault.{InputFault}
 use Rattle.command_line.specs.declared.status.InputFault.TheVariants.{Database}
-use Rattle.hpc_top.proofs.FewEvents.{one_run}
 use Rattle.hpc_top.specs.Faulted.{faulted}
 use Rattle.hpc_top.specs.Product.{Product, only_text}
 use Rattle.hpc_top.specs.commands.View.{database, most_callers, place_or_none, place_shown, shown_at, table_of_paths, table_of, view_product}
@@ -74,7 +73,7 @@ abbrev pub NodesLaw : Type 0
 NodesLaw = (events place : ℕ) (ps : List ColumnPath) → length (nodes (paths_of_event events place ps)) ≤ length (nodes ps)
 
 -- a period is above 0
-some_period : (events : List EventPeriod) (place : ℕ) → All (λ e. 1 ≤ e.period) events → place < length events → 0 < period_at events place
+pub some_period : (events : List EventPeriod) (place : ℕ) → All (λ e. 1 ≤ e.period) events → place < length events → 0 < period_at events place
 some_period [] place all within = absurd (omega (arith, within))
 some_period (e ∷ events) zero all within = (let some = All-head (λ (q : EventPeriod). 1 ≤ q.period) e events all in omega (arith, some))
 some_period (e ∷ events) (suc place) all within = some_period events place (All-tail (λ (q : EventPeriod). 1 ≤ q.period) e events all) (omega (arith, within))
@@ -96,7 +95,7 @@ shown_of table event bytes content read =
     ap (λ (r : Result EventContent DbFault). faulted (λ (fault : DbFault). Database fault.offset fault.rule) r >>= λ content. shown_at event content.events (λ place. table_of table (content_of_event content place))) read
 
 -- a call path has scopes
-some_scopes : (path : List Scope) → is_call_path path ≡ true → 0 < length path
+pub some_scopes : (path : List Scope) → is_call_path path ≡ true → 0 < length path
 some_scopes [] e = absurd (true≢false (sym e))
 some_scopes (root ∷ rest) e = omega arith
 
@@ -117,7 +116,7 @@ shown_within (Some event) events place are is = found (position (λ e. event_num
     found None e is = absurd cc
 
 -- what is put, where the tables of all places that may be shown are the same
-shown_same : (shown : Result ℕ InputFault) (one other : ℕ → List ℕ) → ((place : ℕ) → shown ≡ Ok place → one place ≡ other place) → (shown >>= λ place. Ok (only_text (one place))) ≡ (shown >>= λ place. Ok (only_text (other place)))
+pub shown_same : (shown : Result ℕ InputFault) (one other : ℕ → List ℕ) → ((place : ℕ) → shown ≡ Ok place → one place ≡ other place) → (shown >>= λ place. Ok (only_text (one place))) ≡ (shown >>= λ place. Ok (only_text (other place)))
 shown_same (Ok place) one other same = ap (λ (text : List ℕ). (let r : Result Product InputFault = Ok (only_text text) in r)) (same place refl)
 shown_same (Err fault) one other same = refl
 
@@ -131,18 +130,17 @@ show_is table event bytes c place own read shown is =
 
 -- what the law of stored contents says
 abbrev pub ReadLaw : Type 0
-ReadLaw = (events : List EventPeriod) (harts : ℕ) (naming : Naming) (ps : List ColumnPath) → AreEventsStored events harts naming ps → events_in (events_spelling (event_content_of events (harts ∷ []) naming ps)) ≡ Ok (event_content_of events (harts ∷ []) naming ps)
+ReadLaw = (events : List EventPeriod) (runs : List ℕ) (naming : Naming) (ps : List ColumnPath) → AreEventsStored events runs naming ps → events_in (events_spelling (event_content_of events runs naming ps)) ≡ Ok (event_content_of events runs naming ps)
 
-pub shown_of_stored : TopLaw → CallersLaw → FlatLaw → PartLaw → SomeLaw → BelowLaw → NodesLaw → ReadLaw → (table : ViewTable) (event : Option Event) (events : List EventPeriod) (harts : ℕ) (naming : Naming) (ps : List ColumnPath) → AreEventsStored events harts naming ps
-    → view_product table event (events_spelling (event_content_of events (harts ∷ []) naming ps))
-    ≡ shown_at event events (λ place. table_of_paths table (period_at events place) harts naming (paths_of_event (length events) place ps))
+pub shown_of_stored : TopLaw → CallersLaw → FlatLaw → PartLaw → SomeLaw → BelowLaw → NodesLaw → ReadLaw → (table : ViewTable) (event : Option Event) (events : List EventPeriod) (runs : List ℕ) (naming : Naming) (ps : List ColumnPath) → AreEventsStored events runs naming ps
+    → view_product table event (events_spelling (event_content_of events runs naming ps))
+    ≡ shown_at event events (λ place. table_of_paths table (period_at events place) (sum runs) naming (paths_of_event (length events) place ps))
 unfolding event_content_of
-shown_of_stored top by_callers by_flat part some_law below_law nodes_law read table event events harts naming ps stored =
+shown_of_stored top by_callers by_flat part some_law below_law nodes_law read table event events runs naming ps stored =
     let few : length (nodes ps) ≤ no_parent = (let limit = stored.few_nodes in omega arith) in
     let some : All (λ p. 0 < length p.path) ps =
     All-weaker (λ (p : ColumnPath). is_call_path p.path ≡ true) (λ (p : ColumnPath). 0 < length p.path) (λ p e. some_scopes p.path e) ps stored.call_paths in
-    let content : EventContent = event_content_of events (harts ∷ []) naming ps in
-    shown_of table event (events_spelling content) content (read events harts naming ps stored)
-    ∙ shown_same (place_shown event events) (λ place. table_of table (content_of_event content place)) (λ place. table_of_paths table (period_at events place) harts naming (paths_of_event (length events) place ps))
-    (λ place is. table_of_event top by_callers by_flat part some_law below_law nodes_law table events (harts ∷ []) naming ps place stored.are_events (shown_within event events place stored.are_events is) few some stored.below
-    ∙ ap (λ (n : ℕ). table_of_paths table (period_at events place) n naming (paths_of_event (length events) place ps)) (one_run harts))
+    let content : EventContent = event_content_of events runs naming ps in
+    shown_of table event (events_spelling content) content (read events runs naming ps stored)
+    ∙ shown_same (place_shown event events) (λ place. table_of table (content_of_event content place)) (λ place. table_of_paths table (period_at events place) (sum runs) naming (paths_of_event (length events) place ps))
+    (λ place is. table_of_event top by_callers by_flat part some_law below_law nodes_law table events runs naming ps place stored.are_events (shown_within event events place stored.are_events is) few some stored.below)

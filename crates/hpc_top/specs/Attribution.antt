@@ -1,37 +1,36 @@
 -- Samples, attributed to scopes, with their database and their tables (HPCToolkit's manual, "Attribution").
-use Rattle.std.specs.Prelude.{ℕ, List, [], ◌∷◌, ◌++◌, length, map, Result, Ok, if◌then◌else◌}
+use Rattle.std.specs.Prelude.{ℕ, List, ◌++◌, length, map, sum, Result, Ok}
 use Rattle.std.specs.List.{enumerate_from, flat_map}
 use Rattle.prof_bytes.specs.Outcome.{◌>>=◌}
 use Rattle.prof_db.specs.Spelling.{events_spelling}
-use Rattle.run_report.specs.Report.{event_line, samples_by_event}
+use Rattle.run_report.specs.Report.{line_of_event}
 use Rattle.scope_find.specs.Found.{ProgramScopes, found_at, naming_of}
 use Rattle.scope_types.specs.declared.event.EventPeriod.{EventPeriod}
 use Rattle.scope_types.specs.CallPaths.{ColumnPath}
-use Rattle.scope_types.specs.Columns.{paths_of_event}
+use Rattle.scope_types.specs.Columns.{columns_of, paths_of_event}
 use Rattle.scope_types.specs.Distinct.{ColumnRaw}
-use Rattle.scope_types.specs.Events.{is_retired_alone}
 use Rattle.scope_types.specs.Expansion.{call_path}
 use Rattle.tree_types.specs.declared.content.EventContent.{EventContent}
 use Rattle.tree_types.specs.Database.{event_content_of}
 use Rattle.tree_types.specs.TopDown.{top_down}
 use Rattle.command_line.specs.declared.status.InputFault.{InputFault}
 use Rattle.hpc_top.specs.Product.{Product}
-use Rattle.hpc_top.specs.Samples.{run_columns, sample_path, within_scopes}
+use Rattle.hpc_top.specs.Samples.{sample_path, within_scopes}
 
 -- ---- the samples
 
--- samples of events with their periods, on a given number of harts, and the scopes of their program
+-- samples of events with their periods, on the harts of each of these runs, and the scopes of their program
 pub record Attributed : Type 0 where
   pub scopes : ProgramScopes
   pub events : List EventPeriod
-  pub harts : ℕ
+  pub runs : List ℕ
   pub samples : List ColumnRaw
 
 -- samples, unless these have too many scopes
-abbrev pub attributed : ProgramScopes → List EventPeriod → ℕ → List ColumnRaw → Result Attributed InputFault
-attributed scopes events harts samples = do
-  samples ← within_scopes (call_path (found_at scopes)) (run_columns events harts) samples
-  Ok (record { scopes = scopes; events = events; harts = harts; samples = samples })
+abbrev pub attributed : ProgramScopes → List EventPeriod → List ℕ → List ColumnRaw → Result Attributed InputFault
+attributed scopes events runs samples = do
+  samples ← within_scopes (call_path (found_at scopes)) (columns_of (length events) runs) samples
+  Ok (record { scopes = scopes; events = events; runs = runs; samples = samples })
 
 -- the call paths of the samples
 abbrev pub call_paths_of : Attributed → List ColumnPath
@@ -41,20 +40,14 @@ call_paths_of a = map (sample_path (call_path (found_at a.scopes))) a.samples
 
 -- their content
 abbrev pub event_content : Attributed → List ColumnPath → EventContent
-event_content a paths = event_content_of a.events (a.harts ∷ []) (naming_of a.scopes) paths
+event_content a paths = event_content_of a.events a.runs (naming_of a.scopes) paths
 
--- the line of an event, which is given with its place in the list. There is none where retired is the only event
-abbrev pub line_of_event : List EventPeriod → List ColumnRaw → ℕ × EventPeriod → List ℕ
-line_of_event events samples numbered =
-    if is_retired_alone events then []
-    else event_line numbered.1 (samples_by_event (length events) samples numbered.0)
-
--- the top-down table of an event: of its call paths alone, by its period
+-- the top-down table of an event, which is given with its place in the list: of its call paths alone, by its period
 abbrev pub table_of_event : Attributed → List ColumnPath → ℕ × EventPeriod → List ℕ
 table_of_event a paths numbered =
-    top_down numbered.1.period a.harts (naming_of a.scopes) (paths_of_event (length a.events) numbered.0 paths)
+    top_down numbered.1.period (sum a.runs) (naming_of a.scopes) (paths_of_event (length a.events) numbered.0 paths)
 
--- the events one after another, each with its line before its table
+-- the events one after another, each with its line before its table. There is no line where retired is the only event
 abbrev pub event_tables : Attributed → List ColumnPath → List ℕ
 event_tables a paths =
     flat_map (λ numbered. line_of_event a.events a.samples numbered ++ table_of_event a paths numbered)

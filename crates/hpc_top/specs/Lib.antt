@@ -13,5 +13,6 @@ pub mod Follows
 pub mod Made
 pub mod Merged
 pub mod Apart
+pub mod Order
 pub mod Databases
 pub mod private

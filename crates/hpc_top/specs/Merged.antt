@@ -1,8 +1,9 @@
 -- What `profile` makes of a run by a crew, which need not merge all samples.
-use Rattle.std.specs.Prelude.{◌≡◌, ℕ, Bool, IsTrue, Result, Ok, Err}
+use Rattle.std.specs.Prelude.{◌≡◌, ℕ, Bool, IsTrue, length, Result, Ok, Err}
 use Rattle.prof_bytes.specs.declared.fail.Fail.{Fail}
 use Rattle.prof_bytes.specs.Outcome.{FailsBy}
 use Rattle.scope_find.specs.Found.{found_at}
+use Rattle.scope_types.specs.Columns.{columns_of}
 use Rattle.scope_types.specs.Distinct.{distinct}
 use Rattle.scope_types.specs.Expansion.{call_path}
 use Rattle.thread_cct.specs.Plan.{expanded, plan_of}
@@ -14,13 +15,12 @@ use Rattle.command_line.specs.declared.status.InputFault.{InputFault}
 use Rattle.hpc_top.specs.declared.status.Made.{Made}
 use Rattle.hpc_top.specs.Made.{product_in}
 use Rattle.hpc_top.specs.Attribution.{Attributed}
-use Rattle.hpc_top.specs.Samples.{run_columns}
 use Rattle.hpc_top.specs.commands.Profile.{Profiled, product_from, product_of}
 
 -- the plan of samples: their distinct raw paths in chunks, expanded
 abbrev pub sample_plan : Attributed → Chunks
 sample_plan a =
-    expanded (plan_of (distinct (run_columns a.events a.harts) a.samples)) (call_path (found_at a.scopes))
+    expanded (plan_of (distinct (columns_of (length a.events) a.runs) a.samples)) (call_path (found_at a.scopes))
 
 -- the plan of a run is that of its samples
 abbrev pub run_plan : Profiled → Chunks

@@ -7,7 +7,7 @@ use Rattle.scope_types.specs.declared.scope.Scope.{Scope}
 use Rattle.scope_types.specs.CallPaths.{ColumnPath}
 use Rattle.scope_types.specs.Columns.{column_of}
 use Rattle.scope_types.specs.Raw.{Raw}
-use Rattle.scope_types.specs.Distinct.{ColumnRaw, distinct, frames_in, scopes_in}
+use Rattle.scope_types.specs.Distinct.{ColumnRaw, distinct, frames_in, samples_in, scopes_in}
 use Rattle.scope_types.specs.Limits.{most_samples, most_frames_in_all, most_scopes_in_all}
 use Rattle.sample_clock.specs.declared.clock.Sample.{Sample}
 use Rattle.sample_clock.specs.Samples.{Paths, samples}
@@ -26,6 +26,10 @@ sample_path expand s = record { column = s.column; path = expand s.raw }
 -- the counted paths, unless they have too many frames
 abbrev pub within_frames : List (List Counted) → Result (List (List Counted)) InputFault
 within_frames tables = if nat_lt most_frames_in_all (frames_in tables) then Err TooManyFrames else Ok tables
+
+-- the counted paths, unless they count too many samples
+abbrev pub within_counts : List (List Counted) → Result (List (List Counted)) InputFault
+within_counts tables = if nat_lt most_samples (samples_in tables) then Err TooManySamples else Ok tables
 
 -- the samples, unless there are too many
 abbrev pub within_samples : List ColumnRaw → Result (List ColumnRaw) InputFault

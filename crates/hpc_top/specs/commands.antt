@@ -10,18 +10,24 @@ use Rattle.hpc_top.specs.commands.Prof.{prof_makes}
 use Rattle.hpc_top.specs.commands.Structure.{struct_makes}
 use Rattle.hpc_top.specs.commands.View.{view_makes}
 use Rattle.hpc_top.specs.commands.Drill.{drill_makes}
+use Rattle.hpc_top.specs.commands.Merge.{merge_makes}
+use Rattle.hpc_top.specs.commands.Stats.{stats_makes}
 pub mod Profile
 pub mod Run
 pub mod Prof
 pub mod Structure
 pub mod View
 pub mod Drill
+pub mod Merge
+pub mod Stats
 
 -- what a command makes of the contents of its files, which come in the order in which they are wanted
 abbrev pub makes : Command → List (List ℕ) → Result Product InputFault
 makes (command.Profile events workers) texts = profile_makes events texts
-makes (command.Run period) texts = run_makes period texts
+makes (command.Run events) texts = run_makes events texts
 makes (command.Prof workers) texts = prof_makes texts
 makes command.Struct texts = struct_makes texts
 makes (command.View table event) texts = view_makes table event texts
 makes (command.Drill number workers) texts = drill_makes number texts
+makes (command.Merge workers runs) texts = merge_makes texts
+makes (command.Stats kind event) texts = stats_makes kind event texts

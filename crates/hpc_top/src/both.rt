@@ -1,10 +1,11 @@
-//! The database and the tables of a content. Where retired instructions are the only event, each needs the content of
-//! this event alone, so a thread of its own makes each, and touches its pages first. Before that both find the length
-//! of the table, which takes longer than the database.
-ghost use Rattle.std.specs.Prelude.{◌≡◌, ◌<◌, ◌-◌, ◌^◌, ◌++◌, ◌∷◌, [], true, length, min, IfOk};
+//! The database and the tables of a content. Where retired instructions are the only event of one run, each needs the
+//! content of this event alone, so a thread of its own makes each, and touches its pages first. Before that both find the
+//! length of the table, which takes longer than the database. Else they are made one after the other.
+ghost use Rattle.std.specs.Prelude.{◌≡◌, ◌<◌, ◌≤◌, ◌-◌, ◌^◌, ◌++◌, ◌∷◌, [], true, length, min, IfOk};
 ghost use Rattle.prof_db.specs.Spelling.{database_spelling, events_spelling};
 ghost use Rattle.prof_db.specs.Writable.{IsWritable};
 ghost use Rattle.scope_types.specs.Events.{is_retired_alone};
+ghost use Rattle.scope_types.specs.Limits.{most_runs};
 ghost use Rattle.tree_types.specs.OfContent.{IsEventProfile, IsProfile, content_of_event, content_table};
 ghost use Rattle.hpc_top.specs.private.EventTexts.{tables_in};
 
@@ -64,7 +65,6 @@ fn with_table(
     place: u32,
 ) -> Result<Text, Memory>
     requires profile { IsEventProfile content.now }
-    requires run { length content.now.runs ≡ 1 }
     requires place { place < length content.now.events }
     ensures { IfOk result (λ whole. whole ≡ text ++ line.now ++ content_table (content_of_event content.now place)) }
 {
@@ -82,7 +82,6 @@ fn with_tables(
     content: &EventContent,
 ) -> Result<Text, Memory>
     requires profile { IsEventProfile content.now }
-    requires run { length content.now.runs ≡ 1 }
     requires lines { length lines.now ≡ length content.now.events }
     ensures { IfOk result (λ whole. whole ≡ text ++ tables_in lines.now content.now) }
 {
@@ -91,6 +90,32 @@ fn with_tables(
         whole = with_table(alloc, whole, &lines[place], content, place as u32)?;
     }
     Ok(whole)
+}
+
+/// The database of a content in which retired instructions are the only event, and its table after the text. Of one run
+/// many nodes have a thread each.
+fn database_and_table<R: Threads + Sync>(
+    rt: &R,
+    alloc: Global,
+    text: Text,
+    content: EventContent,
+) -> Result<(Text, Text), Memory>
+    requires profile { IsEventProfile content }
+    requires runs { length content.runs ≤ most_runs }
+    requires alone { is_retired_alone content.events ≡ true }
+    ensures { IfOk result (λ both.
+        (both.0 ≡ events_spelling content) × (both.1 ≡ text ++ content_table (content_of_event content 0))) }
+{
+    event_profiles_are_writable();
+    one_event_is_the_whole();
+    if content.runs.items().len() == 1 {
+        let content = into_content(content);
+        return database_and_report(rt, alloc, text, &content);
+    }
+    let database = write_events(alloc, &content)?;
+    let content = into_content(content);
+    let size = top_down_length(&content);
+    Ok((database, report(text, size, &content)?))
 }
 
 /// The content's database, and after the text the table of each event with its line, which is empty where retired
@@ -103,17 +128,15 @@ pub fn database_and_tables<R: Threads + Sync>(
     content: EventContent,
 ) -> Result<(Text, Text), Memory>
     requires profile { IsEventProfile content }
-    requires run { length content.runs ≡ 1 }
+    requires runs { length content.runs ≤ most_runs }
     requires lines { length lines.now ≡ length content.events }
     requires alone { is_retired_alone content.events ≡ true → lines.now ≡ [] ∷ [] }
     ensures { IfOk result (λ both.
         (both.0 ≡ events_spelling content) × (both.1 ≡ text ++ tables_in lines.now content)) }
 {
     event_profiles_are_writable();
-    one_event_is_the_whole();
     if is_retired_alone(content.events.items()) {
-        let content = into_content(content);
-        return database_and_report(rt, alloc, text, &content);
+        return database_and_table(rt, alloc, text, content);
     }
     let database = write_events(alloc, &content)?;
     Ok((database, with_tables(alloc, text, lines, &content)?))

@@ -5,9 +5,11 @@ ghost use Rattle.hpc_top.specs.commands.{makes};
 ghost use Rattle.hpc_top.specs.private.Steps.{AreWithin};
 
 pub mod drill;
+pub mod merge;
 pub mod prof;
 pub mod profile;
 pub mod run;
+pub mod stats;
 pub mod structure;
 pub mod view;
 
@@ -32,10 +34,12 @@ pub fn make<R: Threads + Sync + AllocGlobal, G: Gate>(
         Command::Profile { periods, workers } => {
             profile::make(rt, periods.items(), *workers, texts, gate)
         }
-        Command::Run { period } => run::make(rt.alloc(), *period, texts),
+        Command::Run { periods } => run::make(rt.alloc(), periods.items(), texts),
         Command::Prof { workers } => prof::make(rt, *workers, texts, gate),
         Command::Struct => structure::make(rt.alloc(), texts),
         Command::View { table, event } => view::make(rt.alloc(), *table, *event, texts),
         Command::Drill { number, workers } => drill::make(rt, *number, *workers, texts, gate),
+        Command::Merge { workers, .. } => merge::make(rt, *workers, texts, gate),
+        Command::Stats { kind, event } => stats::make(rt.alloc(), *kind, *event, texts),
     }
 }

@@ -1,7 +1,8 @@
 //! A run whose samples are counted, and the lines on it.
-ghost use Rattle.std.specs.Prelude.{◌≡◌, ◌<◌, ◌≤◌, All, IfOk, length};
+ghost use Rattle.std.specs.Prelude.{◌≡◌, ◌<◌, ◌≤◌, ◌++◌, All, IfOk, length};
 ghost use Rattle.cfi_table.specs.Frames.{descriptions};
 ghost use Rattle.cfi_unwind.specs.Path.{path_by as unwound_by};
+ghost use Rattle.run_report.specs.Report.{event_lines};
 ghost use Rattle.rv_run.specs.Progress.{to_come};
 ghost use Rattle.scope_types.specs.Events.{AreEvents};
 ghost use Rattle.scope_types.specs.Limits.{most_harts};
@@ -15,7 +16,7 @@ use cfi_unwind::Unwinder;
 use command_line::InputFault;
 use elf_image::Image;
 use prof_bytes::{Fail, Memory, Text};
-use run_report::run_lines;
+use run_report::{run_and_events, run_lines};
 use rv_run::Schedule;
 use sample_clock::{Samples, samples_are_of_instructions};
 use scope_types::EventPeriod;
@@ -82,4 +83,18 @@ pub fn lines_of(alloc: Global, events: &[EventPeriod], run: &CountedRun<'_>) -> 
     ensures { (m : Measured) → IsCount events.now m run.now → IfOk result (λ text. text ≡ lines_of m) }
 {
     run_lines(alloc, events, &run.ccts, run.samples.machine())
+}
+
+/// The lines on a run, and after them the line of each event, unless retired is the only one.
+pub fn lines_with_events(
+    alloc: Global,
+    events: &[EventPeriod],
+    run: &CountedRun<'_>,
+) -> Result<Text, Memory>
+    requires events { AreEvents events.now }
+    requires counted { (m : Measured) × IsCount events.now m run.now }
+    ensures { (m : Measured) → IsCount events.now m run.now
+        → IfOk result (λ text. text ≡ lines_of m ++ event_lines m.events m.samples) }
+{
+    run_and_events(alloc, events, &run.ccts, run.samples.machine())
 }

@@ -1,11 +1,12 @@
 //! The top call: what the program does with its words, its files and its streams.
 //!
-//! It promises that what `profile` stores and prints is byte for byte what the definitions make of the
-//! files, that each refusal comes exactly where they have it, and what stands after every other
-//! answer. Below stand the crates for files and streams, programs and their debug information, guests of numbers, the
-//! machine and its samples, scopes and the tree.
+//! It promises that what each command stores and puts is byte for byte what the definitions make of the
+//! files, that each refusal comes exactly where they have it, and what is there after every other
+//! answer. Below lie the crates for files and streams, programs and their debug information, guests of numbers, the
+//! machine and its samples, scopes, the tree, its tables and its summaries.
 #![tactic(auto)]
 
+mod attribution;
 mod both;
 mod call;
 mod collect;
@@ -20,18 +21,21 @@ mod product;
 mod profiling;
 mod program;
 mod refusal;
+mod runs;
 mod scopes;
 mod shown_laws;
+mod stats_laws;
 mod status;
 mod steps;
 mod stored_laws;
 mod table;
 
 pub use call::hpc_main;
-pub use command_line::{FileKind, InputFault, Place, Status, out_of_memory};
+pub use command_line::{FileKind, InputFault, MergeFault, Place, Status, out_of_memory};
 pub use commands::profile::{Job, profile};
 pub use drill_laws::drills_are_refused_for_long_paths_alone;
-pub use laws::profile_is_run_then_prof;
+pub use laws::{merge_of_one_is_prof, order_renumbers_columns, profile_is_run_then_prof};
 pub use shown_laws::views_are_of_call_paths;
+pub use stats_laws::summaries_are_of_call_paths;
 pub use status::Made;
 pub use stored_laws::{databases_are_of_samples, measurements_are_of_runs};

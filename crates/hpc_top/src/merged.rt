@@ -1,12 +1,12 @@
 //! Counted samples, merged by a crew.
-ghost use Rattle.std.specs.Prelude.{◌≡◌, ◌<◌, ◌≤◌, ℕ, [], ◌∷◌, All, IfOk, List, length};
+ghost use Rattle.std.specs.Prelude.{◌≡◌, ◌<◌, ◌≤◌, ℕ, All, IfOk, List, length, sum};
 ghost use Rattle.prof_bytes.specs.Outcome.{Gives};
 ghost use Rattle.scope_find.specs.Found.{found_at, naming_of};
-ghost use Rattle.scope_types.specs.Columns.{paths_of_event};
+ghost use Rattle.scope_types.specs.Columns.{columns_of, paths_of_event};
 ghost use Rattle.scope_types.specs.Distinct.{ColumnRaw, distinct};
 ghost use Rattle.scope_types.specs.Events.{AreEvents};
 ghost use Rattle.scope_types.specs.Expansion.{call_path};
-ghost use Rattle.scope_types.specs.Limits.{most_harts, most_workers};
+ghost use Rattle.scope_types.specs.Limits.{most_workers};
 ghost use Rattle.stripe_table.specs.Ends.{named_paths};
 ghost use Rattle.thread_cct.specs.Plan.{FitsExpansion};
 ghost use Rattle.tree_join.specs.Join.{AreJoinable};
@@ -15,8 +15,7 @@ ghost use Rattle.tree_types.specs.OfContent.{IsEventProfile, content_of_event, c
 ghost use Rattle.tree_types.specs.TopDown.{top_down};
 ghost use Rattle.hpc_top.specs.Attribution.{attributed};
 ghost use Rattle.hpc_top.specs.Merged.{merging};
-ghost use Rattle.hpc_top.specs.Samples.{run_columns};
-ghost use Rattle.hpc_top.specs.private.Merging.{Merges, few_planned};
+ghost use Rattle.hpc_top.specs.private.Merging.{AreRuns, Merges, few_planned};
 
 use crate::events::{copied_events, periods_of};
 use command_line::InputFault;
@@ -36,13 +35,13 @@ use tree_types::{
     EventContent, event_contents_have_parts, event_paths_make_a_profile, trees_hold_paths,
 };
 
-/// How samples are merged: the crews, the number of workers, the events with their periods, and the number of harts.
+/// How samples are merged: the crews, the number of workers, the events with their periods, and the harts of each run.
 #[derive(Clone, Copy)]
 pub struct Merge<'a, C> {
     pub crews: &'a C,
     pub workers: u32,
     pub events: &'a [EventPeriod],
-    pub harts: u32,
+    pub runs: &'a [u32],
 }
 
 /// What a merge leaves: the content of the pieces that the crew's stripes name, and what the crew has done.
@@ -68,13 +67,13 @@ fn plan_of<'a>(
     }
 }
 
-/// The harts of each run, of which there is one.
-fn one_run(alloc: Global, harts: u32) -> Result<Vec<u32>, Memory>
-    ensures { IfOk result (λ runs. runs.items ≡ harts ∷ []) }
+/// The harts of each run.
+fn copied_runs(alloc: Global, runs: &[u32]) -> Result<Vec<u32>, Memory>
+    ensures { IfOk result (λ copy. copy.items ≡ runs.now) }
 {
-    let mut runs = Vec::new(alloc);
-    runs.push(harts)?;
-    Ok(runs)
+    let mut copy = Vec::new(alloc);
+    copy.extend_from_slice(runs)?;
+    Ok(copy)
 }
 
 /// The content of the pieces that the stripes name.
@@ -82,30 +81,30 @@ fn content_named<R: Threads + Sync>(
     rt: &R,
     alloc: Global,
     events: &[EventPeriod],
-    harts: u32,
+    runs: &[u32],
     columns: u32,
     expander: &Expander<'_>,
     stripes: &StripeSet,
 ) -> Result<EventContent, Memory>
     requires events { AreEvents events.now }
-    requires harts { (0 < harts) × (harts ≤ most_harts) }
-    requires columns { columns ≡ run_columns events.now harts }
+    requires runs { AreRuns runs.now }
+    requires columns { columns ≡ columns_of (length events.now) runs.now }
     requires held { AreJoinable stripes.now columns }
     ensures content { IfOk result (λ content. content
-        ≡ event_content_of events.now (harts ∷ []) (naming_of expander.now) (named_paths stripes.now)) }
+        ≡ event_content_of events.now runs.now (naming_of expander.now) (named_paths stripes.now)) }
     ensures profile { IfOk result (λ content. IsEventProfile content) }
-    ensures run { IfOk result (λ content. length content.runs ≡ 1) }
+    ensures runs { IfOk result (λ content. content.runs ≡ runs.now) }
     ensures events { IfOk result (λ content. content.events ≡ events.now) }
     ensures tables { (place : ℕ) → place < length events.now → IfOk result (λ content.
         content_table (content_of_event content place)
-        ≡ top_down (period_at events.now place) harts (naming_of expander.now)
+        ≡ top_down (period_at events.now place) (sum runs.now) (naming_of expander.now)
         (paths_of_event (length events.now) place (named_paths stripes.now))) }
 {
     event_contents_have_parts();
     event_paths_make_a_profile();
     trees_hold_paths();
     let own_events = copied_events(alloc, events)?;
-    let runs = one_run(alloc, harts)?;
+    let own_runs = copied_runs(alloc, runs)?;
     let tree = join_stripes(alloc, stripes, columns)?;
     let names = expander.names(&tree)?;
     let periods = periods_of(alloc, events)?;
@@ -115,7 +114,7 @@ fn content_named<R: Threads + Sync>(
     let (profiles, contexts) = planes;
     Ok(EventContent {
         events: Listed::of(own_events),
-        runs: Listed::of(runs),
+        runs: Listed::of(own_runs),
         names,
         nodes: Listed::of(tree.into_nodes()),
         profiles,
@@ -132,15 +131,15 @@ pub fn merge_samples<R: Threads + Sync, C: Crews>(
     ccts: &Ccts,
 ) -> Result<Merged, Fail<InputFault>>
     requires events { AreEvents merge.now.events.now }
-    requires harts { (0 < merge.now.harts) × (merge.now.harts ≤ most_harts) }
-    requires columns { length ccts.now ≡ run_columns merge.now.events.now merge.now.harts }
+    requires runs { AreRuns merge.now.runs.now }
+    requires columns { length ccts.now ≡ columns_of (length merge.now.events.now) merge.now.runs.now }
     requires workers { (1 ≤ merge.now.workers) × (merge.now.workers ≤ most_workers) }
     ensures merged { (samples : List ColumnRaw) → ccts.now ≡ distinct (length ccts.now) samples
         → All (λ s. s.column < length ccts.now) samples
         → Merges (merging (C.gives merge.now.crews.now) (C.whole merge.now.crews.now) merge.now.workers) result
-        (attributed finder.now merge.now.events.now merge.now.harts samples) }
+        (attributed finder.now merge.now.events.now merge.now.runs.now samples) }
     ensures profile { IfOk result (λ merged. IsEventProfile merged.content) }
-    ensures run { IfOk result (λ merged. length merged.content.runs ≡ 1) }
+    ensures runs { IfOk result (λ merged. merged.content.runs ≡ merge.now.runs.now) }
     ensures events { IfOk result (λ merged. merged.content.events ≡ merge.now.events.now) }
 {
     call_paths_have_roots();
@@ -156,7 +155,7 @@ pub fn merge_samples<R: Threads + Sync, C: Crews>(
         rt,
         alloc,
         merge.events,
-        merge.harts,
+        merge.runs,
         plan.columns(),
         &expander,
         &crew.stripes,

@@ -1,5 +1,5 @@
 //! A run that is profiled: its samples counted and merged, before `profile` makes its report of it, or `drill` its lines.
-ghost use Rattle.std.specs.Prelude.{◌≡◌, ◌≤◌, Ok};
+ghost use Rattle.std.specs.Prelude.{◌≡◌, ◌≤◌, [], ◌∷◌, Ok};
 ghost use Rattle.cfi_table.specs.Frames.{descriptions};
 ghost use Rattle.scope_types.specs.Events.{AreEvents};
 ghost use Rattle.scope_types.specs.Limits.{most_workers};
@@ -44,7 +44,7 @@ fn merge_run<'a, R: Threads + Sync, C: Crews>(
     run: CountedRun<'a>,
 ) -> Result<ProfiledRun<'a>, Fail<InputFault>>
     requires events { AreEvents merge.now.events.now }
-    requires harts { merge.now.harts ≡ run.harts }
+    requires runs { merge.now.runs.now ≡ run.harts ∷ [] }
     requires workers { (1 ≤ merge.now.workers) × (merge.now.workers ≤ most_workers) }
     requires counted { (m : Measured) × IsCount merge.now.events.now m run }
     ensures { (m : Measured) → IsCount merge.now.events.now m run.entry
@@ -73,11 +73,12 @@ fn merge_scopes<'a, R: Threads + Sync, C: Crews>(
         result (profiled (record { structure = structure.now; lines = lines.now; image = image.now }) m) }
 {
     let finder = Finder::of(alloc, structure, lines, image)?;
+    let runs = [run.harts];
     let merge = Merge {
         crews,
         workers: job.workers,
         events: job.periods,
-        harts: run.harts,
+        runs: &runs,
     };
     merge_run(rt, alloc, &merge, &finder, run)
 }

@@ -1,5 +1,5 @@
 //! What is so of the tables that `view` puts.
-ghost use Rattle.std.specs.Prelude.{◌≡◌, ◌<◌, ◌≤◌, ℕ, [], ◌∷◌, All, List, Option, length, sum};
+ghost use Rattle.std.specs.Prelude.{◌≡◌, ◌<◌, ◌≤◌, ℕ, All, List, Option, length, sum};
 ghost use Rattle.prof_db.specs.Spelling.{events_spelling};
 ghost use Rattle.prof_db.specs.Stored.{AreEventsStored};
 ghost use Rattle.scope_types.specs.CallPaths.{ColumnPath};
@@ -28,12 +28,13 @@ pub fn views_are_of_call_paths()
         → All (λ p. 0 < length p.path) paths → All (λ p. p.column < columns_of (length events) runs) paths
         → table_of table (content_of_event (event_content_of events runs naming paths) place)
         ≡ table_of_paths table (period_at events place) (sum runs) naming (paths_of_event (length events) place paths) }
-    ensures stored { (table : ViewTable) (event : Option Event) (events : List EventPeriod) (harts : ℕ)
+    ensures stored { (table : ViewTable) (event : Option Event) (events : List EventPeriod) (runs : List ℕ)
         (naming : Naming) (paths : List ColumnPath)
-        → AreEventsStored events harts naming paths
-        → view_product table event (events_spelling (event_content_of events (harts ∷ []) naming paths))
+        → AreEventsStored events runs naming paths
+        → view_product table event (events_spelling (event_content_of events runs naming paths))
         ≡ shown_at event events (λ place.
-        table_of_paths table (period_at events place) harts naming (paths_of_event (length events) place paths)) }
+        table_of_paths table (period_at events place) (sum runs) naming
+        (paths_of_event (length events) place paths)) }
 {
     content_holds_its_paths();
     event_contents_have_parts();

@@ -1,28 +1,33 @@
 //! What is so of the files that commands store.
-ghost use Rattle.hpc_top.specs.Databases.{ProfilesStoreDatabases, ProfsStoreDatabases, RunsStoreMeasurements};
+ghost use Rattle.hpc_top.specs.Databases.{MergesStoreDatabases, ProfilesStoreDatabases, ProfsStoreDatabases};
+ghost use Rattle.hpc_top.specs.Databases.{RunsStoreMeasurements};
 
 use crate::shown_laws::views_are_of_call_paths;
+use crate::stats_laws::summaries_are_of_call_paths;
 use cfi_unwind::paths_have_frames;
 use measure_file::{
-    measurements_count_samples, read_is_written, samples_are_measured, written_is_read,
+    event_read_is_written, event_written_is_read, measurements_count_samples, samples_are_measured,
 };
 use prof_db::{call_paths_are_stored, event_call_paths_are_stored};
 use sample_clock::samples_are_of_instructions;
 use thread_cct::samples_are_counted;
 use tree_types::{counts_decide, nodes_are_few};
 
-/// Each database that an accepted `profile` or `prof` stores is read as the content of its samples' call paths, and
-/// `view` puts the tables of each event's paths: the limits of a job keep it within those of the format.
+/// Each database that an accepted `profile`, `prof` or `merge` stores is read as the content of its samples' call paths,
+/// `view` puts the tables of each event's paths, and `stats` their summaries: the limits of samples, frames and scopes
+/// keep it within those of the format.
 pub fn databases_are_of_samples()
     ensures profile { ProfilesStoreDatabases }
     ensures prof { ProfsStoreDatabases }
+    ensures merge { MergesStoreDatabases }
 {
     views_are_of_call_paths();
+    summaries_are_of_call_paths();
     call_paths_are_stored();
     event_call_paths_are_stored();
     samples_are_of_instructions();
     paths_have_frames();
-    read_is_written();
+    event_read_is_written();
     measurements_count_samples();
     samples_are_counted();
     counts_decide();
@@ -37,5 +42,6 @@ pub fn measurements_are_of_runs()
     paths_have_frames();
     samples_are_of_instructions();
     samples_are_measured();
-    written_is_read();
+    event_written_is_read();
+    samples_are_counted();
 }

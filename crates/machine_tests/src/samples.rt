@@ -48,7 +48,7 @@ static DESCENT: [u32; 12] = [
 type Wanted = (u32, u32, u64, u32, u32);
 
 /// Names, programs, schedules, periods of retired, and samples. The words are those that the GNU assembler 2.40 makes.
-static SAMPLED: [(&str, &[u32], &[u8], u32, &[Wanted]); 6] = [
+static SAMPLED: [(&str, &[u32], &[u8], u32, &[Wanted]); 7] = [
     // Adds 1 to x10 again and again: ordinals are those of each hart.
     (
         "ordinals of each hart",
@@ -98,6 +98,19 @@ static SAMPLED: [(&str, &[u32], &[u8], u32, &[Wanted]); 6] = [
         &[(0, 0, 3, 0x1_0008, 1)],
     ),
     ("no slices", &[0x0015_0513], b"harts 1", 1, &[]),
+    (
+        "the last of 64 harts",
+        &[
+            0x0015_0513,
+            0x0015_0513,
+            0x0015_0513,
+            0x0015_0513,
+            0x0015_0513,
+        ],
+        b"harts 64\n63 5",
+        5,
+        &[(63, 0, 5, 0x1_0010, 67)],
+    ),
 ];
 
 /// Names, schedules of the function that calls itself, events with their periods, and samples, whose ordinals follow

@@ -4,8 +4,10 @@ mod Lengths
 mod Back
 mod Seams
 mod BackPaths
+mod BackHead
 mod BackFile
 mod Forth
+mod ForthHead
 mod ForthFile
 mod EachSample
 mod Sampled

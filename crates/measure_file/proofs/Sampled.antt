@@ -78,8 +78,6 @@ pub sampled_measured : (columns : ℕ) (samples : List ColumnRaw) → AreSampled
 unfolding distinct
 sampled_measured columns samples are =
     let many = length_is columns samples in
-    let some = are.some in
-    let few = are.few in
     let all = all_counted columns samples are.own in
     let most = are.sampled in
     let table_of : ℕ → List Counted = λ column. counted_paths (raws_of samples column) in
@@ -87,8 +85,6 @@ sampled_measured columns samples are =
     All-map IsRaw (λ (s : ColumnRaw). s.raw) (filter (λ s. s.column == column) samples)
     (All-filter (λ s. s.column == column) (λ (s : ColumnRaw). IsRaw s.raw) samples (λ k d lt. (are.paths k d lt, are.addresses k d lt))) in
     record {
-      some = omega (arith, many, some);
-      few = omega (arith, many, few);
       paths = All-map (All IsCounted) table_of (range_with_len 0 columns) (λ k d lt. paths_counted (raws_of samples _) (raws _));
       distinct = All-map AreDistinct table_of (range_with_len 0 columns) (λ k d lt. paths_distinct (raws_of samples _));
       samples = omega (arith, all, most);

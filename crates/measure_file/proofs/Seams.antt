@@ -71,15 +71,9 @@ pub measured_more : (done rest : Tables) (own : List Counted) (c : Counted) → 
     → samples_in (done ++ own ∷ rest) + c.count ≤ most_samples → frames_in (done ++ own ∷ rest) + length c.path.frames ≤ most_frames_in_all
     → AreMeasured (done ++ (own ++ c ∷ []) ∷ rest)
 measured_more done rest own c are counted new few short =
-    let now = length-append done (own ∷ rest) in
-    let then = length-append done ((own ++ c ∷ []) ∷ rest) in
-    let low = are.some in
-    let high = are.few in
     let samples = sum_more count_of done rest own c in
     let frames = sum_more frames_of done rest own c in
     record {
-      some = omega (arith, now, then, low);
-      few = omega (arith, now, then, high);
       paths = own_changed (All IsCounted) done rest own (own ++ c ∷ []) (λ all. All-append IsCounted own (c ∷ []) all (All-cons IsCounted c [] counted (All-nil IsCounted))) are.paths;
       distinct = own_changed AreDistinct done rest own (own ++ c ∷ []) (λ all. distinct_more own c new all) are.distinct;
       samples = omega (arith, samples, few);

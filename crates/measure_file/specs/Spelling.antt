@@ -1,17 +1,24 @@
--- The bytes of a measurement in this project's format, version 1 (docs/FORMATS.md, Measurement).
-use Rattle.std.specs.Prelude.{ℕ, List, ◌++◌, length, codes}
+-- The bytes of a measurement in this project's format (docs/FORMATS.md, Measurement): the head of its version, and then
+-- what all versions share.
+use Rattle.std.specs.Prelude.{ℕ, List, [], ◌∷◌, ◌++◌, length, codes, if◌then◌else◌}
 use Rattle.std.specs.List.{flat_map}
-use Rattle.prof_bytes.specs.Number.{word}
+use Rattle.prof_bytes.specs.Number.{word, words}
+use Rattle.scope_types.specs.Events.{event_words, is_retired_alone, periods_of, retired_every}
+use Rattle.scope_types.specs.declared.event.EventPeriod.{EventPeriod}
 use Rattle.scope_types.specs.declared.frame.Counted.{Counted}
 use Rattle.scope_types.specs.declared.frame.Frame.{Frame}
 use Rattle.scope_types.specs.declared.frame.End.{End}
 use Rattle.scope_types.specs.declared.frame.End.TheVariants.{Whole, Partial}
 use Rattle.scope_types.specs.declared.frame.PartialCause.TheVariants.{NoFde, NoCfa, Expression, Unmapped, Depth}
+use Rattle.measure_file.specs.declared.head.EventHead.{EventHead}
 use Rattle.measure_file.specs.declared.head.MeasureHead.{MeasureHead}
+use Rattle.measure_file.specs.declared.head.MeasureVersion.{MeasureVersion}
+use Rattle.measure_file.specs.declared.head.MeasureVersion.TheVariants.{One, Two}
 
--- what a file begins with
-abbrev pub magic : List ℕ
-magic = codes "HPCRUNM1"
+-- what a file of a version begins with
+abbrev pub measure_magic : MeasureVersion → List ℕ
+measure_magic One = codes "HPCRUNM1"
+measure_magic Two = codes "HPCRUNM2"
 
 -- the number of how a path ends
 abbrev pub end_number : End → ℕ
@@ -35,13 +42,40 @@ path_bytes c = word c.count ++ word (end_number c.path.end) ++ word (length c.pa
 abbrev pub column_bytes : List Counted → List ℕ
 column_bytes paths = word (length paths) ++ flat_map path_bytes paths
 
--- the head: the program's length and entry, the period, and the number of harts
-abbrev pub head_bytes : MeasureHead → ℕ → List ℕ
-head_bytes head harts = magic ++ word head.length ++ word head.entry ++ word head.period ++ word harts
+-- ---- the head, by version
 
--- all bytes of a measurement: its head, and the paths of each hart, which is a column
+-- version 1 is written where retired is the only event, version 2 else
+abbrev pub measure_version : List EventPeriod → MeasureVersion
+measure_version events = if is_retired_alone events then One else Two
+
+-- the events: in version 1 the period of retired; in version 2 how many there are, and each with its period
+abbrev pub events_words : MeasureVersion → List EventPeriod → List ℕ
+events_words One events = periods_of events
+events_words Two events = length events ∷ flat_map event_words events
+
+-- the eight bytes of the version, the program's length and entry, the events, and the number of harts
+abbrev pub head_bytes : EventHead → List ℕ
+head_bytes head = measure_magic (measure_version head.events)
+    ++ words (head.length ∷ head.entry ∷ events_words (measure_version head.events) head.events ++ head.harts ∷ [])
+
+-- all bytes of a measurement: its head, and the paths of each column
+unfoldable pub event_measurement_spelling : EventHead → List (List Counted) → List ℕ
+event_measurement_spelling head tables = head_bytes head ++ flat_map column_bytes tables
+
+-- ---- version 1 alone
+
+-- the head of a measurement in which retired is the only event
+abbrev pub retired_head : MeasureHead → ℕ → EventHead
+retired_head head harts = record {
+  length = head.length;
+  entry = head.entry;
+  harts = harts;
+  events = retired_every head.period;
+}
+
+-- the bytes of a measurement of version 1: each hart is a column
 unfoldable pub measurement_spelling : MeasureHead → List (List Counted) → List ℕ
-measurement_spelling head tables = head_bytes head (length tables) ++ flat_map column_bytes tables
+measurement_spelling head tables = event_measurement_spelling (retired_head head (length tables)) tables
 
 -- the most bytes of a measurement that any command reads
 abbrev pub measurement_limit : ℕ

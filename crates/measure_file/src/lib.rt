@@ -1,10 +1,11 @@
-//! The measurement file: what a run of a program counted, as bytes, in this project's format of version 1.
+//! The measurement file: what a run of a program counted, as bytes, in this project's format.
 //!
 //! It promises that what is written is byte for byte the spelling of the head and the counted paths, and that what is
 //! read is just what the bytes say, or the offset of their first fault. Below lie `thread_cct`, `scope_types` and
 //! `prof_bytes`.
 #![tactic(auto)]
 
+mod events;
 mod fault;
 mod fields;
 mod head;
@@ -14,9 +15,10 @@ mod read;
 mod write;
 
 pub use fault::MeasureFault;
-pub use head::MeasureHead;
+pub use head::{EventHead, MeasureHead};
 pub use laws::{
-    measurements_count_samples, read_is_written, samples_are_measured, written_is_read,
+    event_read_is_written, event_written_is_read, measurements_count_samples, read_is_written,
+    samples_are_measured, written_is_read,
 };
-pub use read::read_measure;
-pub use write::write_measure;
+pub use read::{read_any, read_measure};
+pub use write::{write_events, write_measure};

@@ -26,7 +26,7 @@ use Rattle.prof_db.proofs.BackNames.{files_spelled, nodes_spelled, procs_spelled
 use Rattle.prof_db.proofs.BackPlanes.{list_moved, lists_end, context_bytes, field_bytes, fields_took, past_list_moved, profile_bytes}
 use Rattle.prof_db.proofs.Contents.{contexts_long, profiles_long}
 use Rattle.prof_db.proofs.Headed.{IsHeaded, IsRead, head_took, made_of, raw_counts, raw_head_bytes, raw_head_numbers, read}
-use Rattle.prof_db.proofs.Heads.{not_elsewhere, numbers_few}
+use Rattle.prof_db.proofs.Heads.{not_elsewhere, numbers_few, runs_right}
 use Rattle.prof_db.proofs.Versions.{numbers_of, version_again, version_took}
 use Rattle.prof_bytes.proofs.Outcomes.{bind_ok, guard_ok, ok_same}
 use Rattle.prof_db.proofs.Owned.{ranged}
@@ -151,7 +151,7 @@ module _ (layout : Layout) (c : EventContent) (p : Passed layout c) (version : V
       (λ i. raw_head_numbers version (sym back.events i) (sym back.runs i)) ∙ numbers_of version layout (numbers_few layout p.head)
 
   version_is : version_of own ≡ version
-  version_is = version_again version layout headed (not_elsewhere layout p.head) (numbers_few layout p.head)
+  version_is = version_again version layout headed (runs_right layout p.head) (not_elsewhere layout p.head) (numbers_few layout p.head)
 
   nodes_are : flat_map (node_bytes names) own.nodes ≡ flat_map raw_node_bytes layout.nodes
   nodes_are =

@@ -1,5 +1,5 @@
 -- What was written is read as the same: how the whole file is cut into fields.
-use Rattle.std.proofs.Common.{◌≡◌, ℕ, List, [], ◌∷◌, ◌++◌, length, map, drop, All, Ok, refl, sym, ap, subst, ◌∙◌, append_assoc, append-nil}
+use Rattle.std.proofs.Common.{◌≡◌, ℕ, ◌≤◌, List, [], ◌∷◌, ◌++◌, length, map, drop, All, Ok, refl, sym, ap, subst, ◌∙◌, append_assoc, append-nil, arith}
 use Rattle.std.proofs.lemmas.List.{length-map}
 use Rattle.std.specs.List.{enumerate_from, flat_map}
 use Rattle.prof_bytes.specs.Reading.{At, left_of}
@@ -13,6 +13,7 @@ use Rattle.prof_db.specs.declared.raw.RawNode.{RawNode}
 use Rattle.prof_db.specs.declared.raw.RawProc.{RawProc}
 use Rattle.prof_bytes.specs.Repeated.{times}
 use Rattle.prof_db.specs.declared.raw.Version.{Version}
+use Rattle.scope_types.specs.Limits.{most_runs}
 use Rattle.prof_db.specs.Layout.{after_magic, body_from, file_from, head_from, layout_in, node_from, past_list, proc_from, version_in}
 use Rattle.prof_db.specs.NameRules.{file_name}
 use Rattle.prof_db.specs.Spelling.{database_magic, context_entry_bytes, file_name_bytes, head_numbers, node_bytes, procedure_bytes, profile_entry_bytes, events_spelling, version_of, with_count}
@@ -33,7 +34,8 @@ context_plane c = flat_map (with_count context_entry_bytes) c.contexts
 
 -- a content of which each number has its bytes
 pub record ContentFits (c : EventContent) : Type 0 where
-  pub one_run : length c.runs ≡ 1
+  pub some_runs : 1 ≤ length c.runs
+  pub few_runs : length c.runs ≤ most_runs
   pub many_events : IsWord (length c.events)
   pub periods : All (λ e. IsWord e.period) c.events
   pub harts : All IsWord c.runs
@@ -105,7 +107,7 @@ module _ (c : EventContent) (fits : ContentFits c) where
   counts = procs ∷ files ∷ many ∷ []
 
   head_comes : (at : At) (rest : List ℕ) → left_of at ≡ words (head_numbers (version_of c) c) ++ (words counts ++ rest) → Comes (head_from (version_of c) at) head rest
-  head_comes at rest left = head_forth c fits.one_run fits.many_events fits.periods fits.harts procs files many fits.many_procs fits.many_files fits.many_nodes at rest left
+  head_comes at rest left = head_forth c fits.some_runs (let few = fits.few_runs in omega (arith, few)) fits.many_events fits.periods fits.harts procs files many fits.many_procs fits.many_files fits.many_nodes at rest left
 
   body_forth : (at : At) → left_of at ≡ proc_part → (laid : IsLaid c) × (body_from head at ≡ Ok (layout_of c laid))
   unfolding body_from

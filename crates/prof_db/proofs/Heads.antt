@@ -1,13 +1,14 @@
 -- What the third rule says of a head, and the heads that keep it.
-use Rattle.std.proofs.Common.{◌≡◌, ℕ, zero, suc, ◌+◌, ◌-◌, ◌*◌, ◌%◌, ◌<◌, ◌≤◌, ◌==◌, ◌&&◌, ◌||◌, nat_le, nat_lt, Bool, false, cond, List, [], ◌∷◌, length, map, sum, All, Result, Ok, Err, OnOk, refl, sym, ap, subst, ◌∙◌, arith}
+use Rattle.std.proofs.Common.{◌≡◌, ℕ, zero, suc, ◌+◌, ◌-◌, ◌*◌, ◌%◌, ◌<◌, ◌≤◌, ◌==◌, ◌&&◌, ◌||◌, nat_le, nat_lt, not, Bool, true, false, cond, List, [], ◌∷◌, length, map, sum, All, Result, Ok, Err, OnOk, refl, sym, ap, subst, ◌∙◌, arith}
 use Rattle.std.proofs.Math.Nat.{mod-lt}
 use Rattle.std.proofs.lemmas.Nat.{mul-le}
-use Rattle.std.proofs.lemmas.Bool.{eqb-false, leb-false, lt-ltb, ltb-false, or_parts}
+use Rattle.std.proofs.lemmas.Bool.{eqb-false, eqb-true, leb-false, lt-ltb, ltb-false, or_parts}
 use Rattle.std.proofs.lemmas.List.{length-map}
 use Rattle.std.proofs.lemmas.List.Elements.{All-from_get_or, All-head, All-map, All-tail}
+use Rattle.std.proofs.lemmas.List.Sums.{sum_by-cons}
 use Rattle.scope_types.specs.Columns.{columns_of, period_of_column}
-use Rattle.scope_types.specs.Events.{AreAscending, AreEvents, event_number, periods_of}
-use Rattle.scope_types.specs.Limits.{most_harts}
+use Rattle.scope_types.specs.Events.{AreAscending, AreEvents, event_number, event_of_number, periods_of}
+use Rattle.scope_types.specs.Limits.{most_events, most_harts, most_runs}
 use Rattle.scope_types.specs.declared.event.Event.{Event}
 use Rattle.scope_types.specs.declared.event.Event.TheVariants.{Retired, Loads, Stores, Taken}
 use Rattle.scope_types.specs.declared.event.EventPeriod.{EventPeriod}
@@ -16,8 +17,9 @@ use Rattle.prof_db.specs.declared.fault.DbFault.{DbFault}
 use Rattle.prof_db.specs.declared.raw.Layout.{Layout}
 use Rattle.prof_db.specs.declared.raw.RawEvent.{RawEvent}
 use Rattle.prof_db.specs.declared.raw.Version.{Version}
+use Rattle.prof_db.specs.declared.raw.Version.TheVariants.{One, Two, Three}
 use Rattle.prof_db.specs.Fields.{fault}
-use Rattle.prof_db.specs.HeadRules.{are_elsewhere, broken_offset, event_at, event_breaks, event_count_is_wrong, event_count_offset, event_is_wrong, event_named, event_of, events_kept, events_of, harts_at, harts_offset, head_kept, most_events, nodes_offset, run_breaks, runs_kept}
+use Rattle.prof_db.specs.HeadRules.{are_elsewhere, broken_offset, event_at, event_breaks, event_count_is_wrong, event_count_offset, event_is_wrong, event_of, events_kept, events_of, harts_at, harts_offset, head_kept, nodes_offset, run_breaks, run_count_is_wrong, run_count_offset, runs_kept}
 use Rattle.prof_db.specs.Stored.{IsWord}
 use Rattle.prof_db.specs.private.Heads.{ArePeriods, IsHead}
 use Rattle.prof_bytes.proofs.Outcomes.{bind_ok, guard_ok}
@@ -25,7 +27,7 @@ use Rattle.prof_db.proofs.FirstBroken.{none_broken}
 
 -- ---- events by their numbers
 
-pub named_number : (n : ℕ) → n < 4 → event_number (event_named n) ≡ n
+pub named_number : (n : ℕ) → n < 4 → event_number (event_of_number n) ≡ n
 named_number zero lt = refl
 named_number (suc zero) lt = refl
 named_number (suc (suc zero)) lt = refl
@@ -38,7 +40,7 @@ number_few Loads = omega arith
 number_few Stores = omega arith
 number_few Taken = omega arith
 
-pub number_named : (e : Event) → event_named (event_number e) ≡ e
+pub number_named : (e : Event) → event_of_number (event_number e) ≡ e
 number_named Retired = refl
 number_named Loads = refl
 number_named Stores = refl
@@ -88,16 +90,30 @@ ascend : (es : List RawEvent) → All (λ e. e.event < 4) es → ((i : ℕ) → 
 ascend [] few up = tt
 ascend (e ∷ []) few up = tt
 ascend (e ∷ f ∷ es) few up =
-    let first : event_number (event_named e.event) ≡ e.event = named_number e.event (All-head (λ (e : RawEvent). e.event < 4) e (f ∷ es) few) in
+    let first : event_number (event_of_number e.event) ≡ e.event = named_number e.event (All-head (λ (e : RawEvent). e.event < 4) e (f ∷ es) few) in
     let rest : All (λ e. e.event < 4) (f ∷ es) = All-tail (λ (e : RawEvent). e.event < 4) e (f ∷ es) few in
-    let second : event_number (event_named f.event) ≡ f.event = named_number f.event (All-head (λ (e : RawEvent). e.event < 4) f es rest) in
+    let second : event_number (event_of_number f.event) ≡ f.event = named_number f.event (All-head (λ (e : RawEvent). e.event < 4) f es rest) in
     let less : e.event < f.event = up 0 (omega arith) in
     (omega (arith, first, second, less), ascend (f ∷ es) rest (λ i lt. up (suc i) (omega arith)))
+
+-- versions 1 and 2 have one run, version 3 has 2 to 16
+one_of_runs : (b : Bool) → not b ≡ false → b ≡ true
+one_of_runs true is = refl
+one_of_runs false is = absurd cc
+
+run_bounds : (version : Version) (runs : List ℕ) → run_count_is_wrong version runs ≡ false → (1 ≤ length runs) × (length runs ≤ most_runs)
+run_bounds One runs is = (let one = eqb-true (length runs) 1 (one_of_runs (length runs == 1) is) in (omega (arith, one), omega (arith, one)))
+run_bounds Two runs is = (let one = eqb-true (length runs) 1 (one_of_runs (length runs == 1) is) in (omega (arith, one), omega (arith, one)))
+run_bounds Three runs is =
+    let parts = or_parts (nat_lt (length runs) 2) (nat_lt most_runs (length runs)) is in
+    let least = ltb-false (length runs) 2 parts.0 in
+    (omega (arith, least), ltb-false most_runs (length runs) parts.1)
 
 module _ (layout : Layout) (kept : head_kept layout.version layout.events layout.runs (length layout.nodes) ≡ Ok tt) where
   record Parts : Type 0 where
     count : event_count_is_wrong layout.version layout.events ≡ false
     events : events_kept layout.version layout.events ≡ Ok tt
+    run_count : run_count_is_wrong layout.version layout.runs ≡ false
     runs : runs_kept layout.version (length layout.events) layout.runs ≡ Ok tt
     nodes : length layout.nodes < no_parent
 
@@ -106,9 +122,10 @@ module _ (layout : Layout) (kept : head_kept layout.version layout.events layout
   parts =
       let a = bind_ok (cond (event_count_is_wrong layout.version layout.events) (Err (fault 3 event_count_offset)) (events_kept layout.version layout.events)) _ _ kept in
       let b = guard_ok (event_count_is_wrong layout.version layout.events) (fault 3 event_count_offset) (events_kept layout.version layout.events) a.0 a.1 in
-      let c = bind_ok (runs_kept layout.version (length layout.events) layout.runs) _ _ a.2 in
+      let c = bind_ok (cond (run_count_is_wrong layout.version layout.runs) (Err (fault 3 (run_count_offset (length layout.events)))) (runs_kept layout.version (length layout.events) layout.runs)) _ _ a.2 in
+      let r = guard_ok (run_count_is_wrong layout.version layout.runs) (fault 3 (run_count_offset (length layout.events))) (runs_kept layout.version (length layout.events) layout.runs) c.0 c.1 in
       let d = guard_ok (nat_le no_parent (length layout.nodes)) (fault 3 (nodes_offset layout.version (length layout.events) (length layout.runs))) (Ok tt) tt c.2 in
-      record { count = b.0; events = b.1; runs = c.1; nodes = leb-false no_parent (length layout.nodes) d.0 }
+      record { count = b.0; events = b.1; run_count = r.0; runs = r.1; nodes = leb-false no_parent (length layout.nodes) d.0 }
 
   record Counted : Type 0 where
     some : 1 ≤ length layout.events
@@ -130,6 +147,9 @@ module _ (layout : Layout) (kept : head_kept layout.version layout.events layout
 
   pub not_elsewhere : are_elsewhere layout.version layout.events ≡ false
   not_elsewhere = counted.here
+
+  pub runs_right : run_count_is_wrong layout.version layout.runs ≡ false
+  runs_right = parts.run_count
 
   pub numbers_few : All (λ e. e.event < 4) layout.events
   numbers_few = all_few layout.version layout.events parts.events
@@ -158,6 +178,8 @@ module _ (layout : Layout) (kept : head_kept layout.version layout.events layout
   head_is = record {
     events = are_events;
     few_events = counted.few;
+    some_runs = (run_bounds layout.version layout.runs parts.run_count).0;
+    few_runs = (run_bounds layout.version layout.runs parts.run_count).1;
     harts = All-from_get_or (λ (h : ℕ). (0 < h) × (h ≤ most_harts)) layout.runs 0 run_is;
     nodes = parts.nodes;
   }
@@ -184,15 +206,20 @@ pub small_of_column : (events : List EventPeriod) → AreEvents events → All (
 small_of_column events are small column =
     All-map IsWord (λ (e : EventPeriod). e.period) events small (column % length (periods_of events)) 0 (mod-lt column (are_periods events are).some)
 
--- one run of at most 16 harts has few columns
-pub few_columns : (events : ℕ) (runs : List ℕ) → events ≤ 4 → length runs ≡ 1 → All (λ h. h ≤ most_harts) runs → columns_of events runs ≤ 64
-few_columns events [] few one harts = absurd (omega arith)
-few_columns events (h ∷ []) few one harts =
-    let all : sum (h ∷ []) ≡ h = omega arith in
-    let some : h ≤ 16 = All-head (λ (h : ℕ). h ≤ most_harts) h [] harts in
-    let product : h * events ≤ 16 * 4 = mul-le h events 16 4 some few in
-    subst (λ (n : ℕ). n * events ≤ 64) (sym all) product
-few_columns events (h ∷ k ∷ runs) few one harts = absurd (omega arith)
+-- 16 runs of at most 64 harts have few columns
+few_harts : (runs : List ℕ) → All (λ h. h ≤ most_harts) runs → sum runs ≤ 64 * length runs
+few_harts [] harts = omega arith
+few_harts (h ∷ runs) harts =
+    let own : h ≤ most_harts = All-head (λ (h : ℕ). h ≤ most_harts) h runs harts in
+    let rest = few_harts runs (All-tail (λ (h : ℕ). h ≤ most_harts) h runs harts) in
+    let parts = sum_by-cons (λ (k : ℕ). k) h runs in
+    omega (arith, own, rest, parts)
+
+pub few_columns : (events : ℕ) (runs : List ℕ) → events ≤ 4 → length runs ≤ most_runs → All (λ h. h ≤ most_harts) runs → columns_of events runs ≤ 4096
+few_columns events runs few few_runs harts =
+    let all = few_harts runs harts in
+    let some : sum runs ≤ 1024 = omega (arith, all, few_runs) in
+    mul-le (sum runs) events 1024 4 some few
 
 -- events that ascend are at most four
 few_after : (e : EventPeriod) (es : List EventPeriod) → AreAscending (e ∷ es) → event_number e.event + length es < 4

@@ -3,6 +3,7 @@ pub mod Profiles
 pub mod FourSamples
 pub mod TwentySamples
 pub mod TwoEvents
+pub mod TwoRuns
 pub mod FirstBroken
 pub mod FieldSteps
 pub mod Heads
@@ -10,6 +11,7 @@ pub mod Marking
 pub mod Preorder
 pub mod Exclusive
 pub mod Sampled
+pub mod Saturated
 pub mod Contents
 pub mod Broken
 pub mod LineUp

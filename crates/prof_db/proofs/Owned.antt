@@ -7,7 +7,7 @@ use Rattle.prof_bytes.specs.Outcome.{Gives}
 use Rattle.prof_bytes.specs.declared.fail.Fail.{Fail}
 use Rattle.scope_types.specs.CallPaths.{ColumnPath}
 use Rattle.scope_types.specs.Columns.{columns_of}
-use Rattle.scope_types.specs.Limits.{most_samples}
+use Rattle.scope_types.specs.Limits.{most_runs, most_samples}
 use Rattle.scope_types.specs.declared.scope.RootKind.TheVariants.{Thread}
 use Rattle.scope_types.specs.declared.scope.Scope.TheVariants as scopes
 use Rattle.tree_types.specs.Database.{event_content_of, names_used, naming_in, node_list}
@@ -36,7 +36,6 @@ use Rattle.prof_db.specs.Rules.{events_in}
 use Rattle.prof_db.specs.private.Heads.{IsHead}
 use Rattle.prof_db.specs.ValueRules.{entry_count, is_exclusive_entry, sampled_nodes, statement_breaks, tree_of}
 use Rattle.prof_db.proofs.Exclusive.{counts_columns, counts_inside, counts_some, few_samples}
-use Rattle.prof_db.proofs.Headed.{read}
 use Rattle.prof_db.proofs.Heads.{are_periods, few_columns, head_is, some_of_column}
 use Rattle.prof_db.proofs.OwnNames.{among_at, contains_map, names_own}
 use Rattle.prof_db.proofs.OwnPaths.{listed_own, nodes_own, own_is, paths_all, some_scope}
@@ -174,20 +173,20 @@ module _ (layout : Layout) (c : EventContent) (p : Passed layout c) where
       let by_node = ap (λ (n : ℕ). context_plane period n ps) same_columns ∙ sym (contexts_are period tree ps (record { same = λ t. refl }) listed few_paths) in
       λ i. record { events = events_of layout; runs = layout.runs; names = names_are i; nodes = sym listed i; profiles = by_column i; contexts = by_node i }
 
-  pub owned : length layout.runs ≡ 1 → IsEventProfile c
-  owned one =
-      let small = few_columns (length layout.events) layout.runs head.few_events one (λ i d lt. (head.harts i d lt).1) in
+  pub owned : IsEventProfile c
+  owned =
+      let small = few_columns (length layout.events) layout.runs head.few_events head.few_runs (λ i d lt. (head.harts i d lt).1) in
       let same = same_columns in
       subst IsEventProfile (content_own ∙ p.is)
-      (profile_of_event_paths (events_of layout) layout.runs (naming_in names) ps head.events (omega (arith, one)) head.harts (omega (arith, same, small)) few_paths some
+      (profile_of_event_paths (events_of layout) layout.runs (naming_in names) ps head.events head.some_runs head.harts (omega (arith, same, small)) few_paths some
       (subst (λ (n : ℕ). All (λ q. q.column < n) ps) (sym same) columns_below) samples)
 
--- what is read of a database is a profile, of one run
+-- what is read of a database is a profile, of few runs
 pub read_owned : (bytes : List ℕ) (c : EventContent) → events_in bytes ≡ Ok c → IsEventProfile c
-read_owned bytes c is = (let a = passed bytes c is in owned a.0 c a.2 (read bytes a.0 a.1).is.one_run)
+read_owned bytes c is = (let a = passed bytes c is in owned a.0 c a.2)
 
-pub read_one_run : (bytes : List ℕ) (c : EventContent) → events_in bytes ≡ Ok c → length c.runs ≡ 1
-read_one_run bytes c is = (let a = passed bytes c is in ap (λ (k : EventContent). length k.runs) (sym a.2.is) ∙ (read bytes a.0 a.1).is.one_run)
+pub read_few_runs : (bytes : List ℕ) (c : EventContent) → events_in bytes ≡ Ok c → length c.runs ≤ most_runs
+read_few_runs bytes c is = (let a = passed bytes c is in subst (λ (k : EventContent). length k.runs ≤ most_runs) a.2.is (head_is a.0 a.2.head).few_runs)
 
 pub given_profile : (bytes : List ℕ) (r : Result EventContent (Fail DbFault)) → Gives (λ (k : EventContent). k) r (events_in bytes) → IfOk r (λ k. IsEventProfile k)
 given_profile bytes (Ok c) is = read_owned bytes c is

@@ -24,9 +24,9 @@ use Rattle.prof_db.proofs.Heads.{are_periods, few_columns, some_of_column}
 pub head_periods : (layout : Layout) (periods : List ℕ) → IsHead layout → periods ≡ periods_of (events_of layout) → ArePeriods periods
 head_periods layout periods head same = subst ArePeriods (sym same) (are_periods (events_of layout) head.events)
 
--- and the columns of one run few
-pub head_columns : (layout : Layout) → IsHead layout → length layout.runs ≡ 1 → layout_columns layout ≤ 64
-head_columns layout head one = few_columns (length layout.events) layout.runs head.few_events one (λ i d lt. (head.harts i d lt).1)
+-- and the columns of its runs few
+pub head_columns : (layout : Layout) → IsHead layout → layout_columns layout ≤ 4096
+head_columns layout head = few_columns (length layout.events) layout.runs head.few_events head.few_runs (λ i d lt. (head.harts i d lt).1)
 
 module _ (layout : Layout) (nodes : List Node) (kept : entries_kept (layout_period layout) (layout_columns layout) nodes layout.entries ≡ Ok tt) where
   abbrev period : ℕ → ℕ
@@ -41,9 +41,9 @@ module _ (layout : Layout) (nodes : List Node) (kept : entries_kept (layout_peri
       subst (λ (ps : List ℕ). All (λ e. entry_samples (period_of_column ps) e ≤ most_samples) es) (sym same)
       (subst (λ (xs : List RawEntry). All (λ e. entry_samples period e ≤ most_samples) xs) (sym entries) (each_few period columns nodes layout.entries kept))
 
-  pub columns_each : (es : List RawEntry) → IsHead layout → length layout.runs ≡ 1 → es ≡ layout.entries → All (λ e. e.column < 2 ^ 32) es
-  columns_each es head one entries =
-      let few = head_columns layout head one in
+  pub columns_each : (es : List RawEntry) → IsHead layout → es ≡ layout.entries → All (λ e. e.column < 2 ^ 32) es
+  columns_each es head entries =
+      let few = head_columns layout head in
       subst (λ (xs : List RawEntry). All (λ e. e.column < 2 ^ 32) xs) (sym entries)
       (All-weaker (λ (e : RawEntry). e.column < columns) (λ e. e.column < 2 ^ 32) (λ e lt. omega (arith, lt, few)) layout.entries (entries_columns period columns nodes layout.entries kept))
 

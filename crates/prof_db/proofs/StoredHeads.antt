@@ -1,19 +1,19 @@
 -- The head of a stored content keeps the third rule.
-use Rattle.std.proofs.Common.{◌≡◌, ℕ, zero, suc, ◌+◌, ◌-◌, ◌*◌, ◌<◌, ◌≤◌, ◌==◌, ◌&&◌, ◌||◌, nat_le, nat_lt, Bool, true, false, cond, List, [], ◌∷◌, length, get_or, map, All, Ok, refl, sym, ap, ◌∙◌, arith, true≢false}
-use Rattle.std.proofs.lemmas.Bool.{le-ltb, lt-leb, ne_eqb, or_from}
+use Rattle.std.proofs.Common.{◌≡◌, ℕ, zero, suc, ◌+◌, ◌-◌, ◌*◌, ◌<◌, ◌≤◌, ◌==◌, ◌&&◌, ◌||◌, nat_le, nat_lt, Bool, true, false, not, cond, List, [], ◌∷◌, length, get_or, map, All, Ok, refl, ap, ◌∙◌, arith}
+use Rattle.std.proofs.lemmas.Bool.{le-ltb, leb-false, leb-true, lt-leb, ne_eqb, or_from}
 use Rattle.std.proofs.lemmas.List.{get_or-map, length-map}
 use Rattle.prof_bytes.proofs.Tests.{and_false}
 use Rattle.scope_types.specs.Events.{AreAscending, AreEvents, event_number, is_retired_alone}
-use Rattle.scope_types.specs.Limits.{most_harts}
+use Rattle.scope_types.specs.Limits.{most_events, most_harts, most_runs}
 use Rattle.scope_types.specs.declared.event.Event.TheVariants.{Retired}
 use Rattle.scope_types.specs.declared.event.EventPeriod.{EventPeriod}
 use Rattle.tree_types.specs.Nodes.{no_parent}
 use Rattle.tree_types.specs.declared.content.EventContent.{EventContent}
 use Rattle.prof_db.specs.declared.raw.RawEvent.{RawEvent}
 use Rattle.prof_db.specs.declared.raw.Version.{Version}
-use Rattle.prof_db.specs.declared.raw.Version.TheVariants.{One, Two}
+use Rattle.prof_db.specs.declared.raw.Version.TheVariants.{One, Two, Three}
 use Rattle.prof_db.specs.Broken.{first_broken}
-use Rattle.prof_db.specs.HeadRules.{are_elsewhere, broken_offset, event_at, event_breaks, event_count_is_wrong, event_is_wrong, event_of, events_kept, harts_at, harts_offset, head_kept, most_events, run_breaks, runs_kept}
+use Rattle.prof_db.specs.HeadRules.{are_elsewhere, broken_offset, event_at, event_breaks, event_count_is_wrong, event_is_wrong, event_of, events_kept, harts_at, harts_offset, head_kept, run_breaks, run_count_is_wrong, runs_kept}
 use Rattle.prof_db.specs.Spelling.{version_of}
 use Rattle.prof_db.proofs.ForthHead.{raw_event}
 use Rattle.prof_db.proofs.Heads.{few_events, number_few, number_named}
@@ -95,16 +95,24 @@ chosen : (b : Bool) → cond b One Two ≡ Two → b ≡ false
 chosen true is = absurd cc
 chosen false is = refl
 
-module _ (c : EventContent) (one : length c.runs ≡ 1) where
-  by_version : (version : Version) → version_of c ≡ version → are_elsewhere version (map raw_event c.events) ≡ false
-  by_version One is = refl
-  by_version Two is =
-      let both : (is_retired_alone c.events && length c.runs == 1) ≡ false = chosen (is_retired_alone c.events && length c.runs == 1) is in
-      elsewhere_not c.events (first_not (is_retired_alone c.events) (sym (ap (λ (n : ℕ). is_retired_alone c.events && n == 1) one) ∙ both))
-    where
-      first_not : (b : Bool) → (b && true) ≡ false → b ≡ false
-      first_not true e = absurd (true≢false e)
-      first_not false e = refl
+module _ (c : EventContent) (some_runs : 1 ≤ length c.runs) (few_runs : length c.runs ≤ most_runs) where
+  abbrev several : Bool
+  several = nat_le 2 (length c.runs)
+
+  one_run : several ≡ false → length c.runs ≡ 1
+  one_run few = (let less = leb-false 2 (length c.runs) few in omega (arith, less, some_runs))
+
+  by_version : (many alone : Bool) → several ≡ many → is_retired_alone c.events ≡ alone → are_elsewhere (cond many Three (cond alone One Two)) (map raw_event c.events) ≡ false
+  by_version true alone is_many is = refl
+  by_version false true is_many is = refl
+  by_version false false is_many is = elsewhere_not c.events is
+
+  runs_right : (many alone : Bool) → several ≡ many → run_count_is_wrong (cond many Three (cond alone One Two)) c.runs ≡ false
+  runs_right true alone is =
+      let least : 2 ≤ length c.runs = leb-true 2 (length c.runs) is in
+      or_from (nat_lt (length c.runs) 2) (nat_lt most_runs (length c.runs)) (le-ltb (length c.runs) 2 least) (le-ltb most_runs (length c.runs) few_runs)
+  runs_right false true is = ap (λ (n : ℕ). not (n == 1)) (one_run is)
+  runs_right false false is = ap (λ (n : ℕ). not (n == 1)) (one_run is)
 
   -- ---- the whole head
 
@@ -112,10 +120,11 @@ module _ (c : EventContent) (one : length c.runs ≡ 1) where
   unfolding head_kept
   head_keeps are harts nodes few =
       let version : Version = version_of c in
-      let count = count_ok c.events are version (by_version version refl) in
+      let count = count_ok c.events are version (by_version several (is_retired_alone c.events) refl refl) in
+      let run_count = runs_right several (is_retired_alone c.events) refl in
       let runs : runs_kept version (length (map raw_event c.events)) c.runs ≡ Ok tt =
       none_fails 3 (run_breaks c.runs) (λ i. harts_offset version (length (map raw_event c.events)) + 4 * i) 0 (length c.runs) (λ k lt. run_whole k (omega (arith, lt))) in
-      rw (count, events_ok c.events are version, runs, lt-leb no_parent nodes few) refl
+      rw (count, events_ok c.events are version, run_count, runs, lt-leb no_parent nodes few) refl
     where
       run_whole : (i : ℕ) → i < length c.runs → run_breaks c.runs i ≡ false
       run_whole i lt =

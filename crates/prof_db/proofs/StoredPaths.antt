@@ -142,10 +142,7 @@ last_there P [] rest some all = absurd (omega arith)
 last_there P (s ∷ []) rest some all = All-head P s rest all
 last_there P (s ∷ t ∷ n) rest some all = last_there P (t ∷ n) rest (omega arith) (All-tail P s (t ∷ n ++ rest) all)
 
-abbrev one_run : ℕ → List ℕ
-one_run harts = harts ∷ []
-
-module _ (events : List EventPeriod) (harts : ℕ) (naming : Naming) (ps : List ColumnPath) (s : AreEventsStored events harts naming ps) where
+module _ (events : List EventPeriod) (runs : List ℕ) (naming : Naming) (ps : List ColumnPath) (s : AreEventsStored events runs naming ps) where
   few : length (nodes ps) ≤ no_parent
   few = (let nodes = s.few_nodes in omega (arith, nodes))
 
@@ -163,15 +160,12 @@ module _ (events : List EventPeriod) (harts : ℕ) (naming : Naming) (ps : List 
       last_there HasWordNumbers n p.2.rest p.2.some (subst (All HasWordNumbers) p.2.parts (All-contains (λ (p : ColumnPath). All HasWordNumbers p.path) ps p.0 s.scopes p.1))
 
   abbrev made : EventContent
-  made = event_content_of events (one_run harts) naming ps
-
-  harts_are : All (λ h. (0 < h) × (h ≤ most_harts)) (one_run harts)
-  harts_are = All-cons (λ (h : ℕ). (0 < h) × (h ≤ most_harts)) harts [] (s.some_harts, s.most_harts) (All-nil (λ (h : ℕ). (0 < h) × (h ≤ most_harts)))
+  made = event_content_of events runs naming ps
 
   profile : IsEventProfile made
   profile =
-      let small = few_columns (length events) (one_run harts) (few_events events s.are_events) refl (λ i d lt. (harts_are i d lt).1) in
-      profile_of_event_paths events (one_run harts) naming ps s.are_events (omega arith) harts_are (omega (arith, small)) few some s.below s.few_samples
+      let small = few_columns (length events) runs (few_events events s.are_events) s.few_runs (λ i d lt. (s.harts i d lt).1) in
+      profile_of_event_paths events runs naming ps s.are_events s.some_runs s.harts (omega (arith, small)) few some s.below s.few_samples
 
   pub event_content_stored : IsEventStored made
   unfolding event_content_of
@@ -179,15 +173,15 @@ module _ (events : List EventPeriod) (harts : ℕ) (naming : Naming) (ps : List 
       let nodes_few = s.few_nodes in
       let long = nodes_listed ps in
       let period : ℕ → ℕ = period_of_column (periods_of events) in
-      let columns : ℕ = columns_of (length events) (one_run harts) in
+      let columns : ℕ = columns_of (length events) runs in
       record {
         profile = profile;
-        one_run = refl;
+        few_runs = s.few_runs;
         periods = s.small_periods;
         nodes = omega (arith, long, nodes_few);
         lists = All-map (λ (list : List ProfileEntry). IsWord (length list)) (profile_entries period ps) (columns_below columns)
             (λ i d lt. (let short = list_short period ps (get_or (columns_below columns) i d) in omega (arith, short, nodes_few)));
-        paths = all_alike (λ (p : ColumnPath). is_call_path p.path) (event_paths_of made) ps (event_paths_alike events (one_run harts) naming ps s.are_events few some s.below) s.call_paths;
+        paths = all_alike (λ (p : ColumnPath). is_call_path p.path) (event_paths_of made) ps (event_paths_alike events runs naming ps s.are_events few some s.below) s.call_paths;
         scopes = All-map (λ (n : Node). HasWordNumbers n.scope) _ (nodes ps) scopes_few;
         procs = All-map IsNamed _ (procs_used (nodes ps)) (λ i d lt. record { short = s.procs (get_or (procs_used (nodes ps)) i d); nameless = λ e. ap naming.proc_name e ∙ s.nameless });
         files = All-map (λ (f : FileName). IsShort f.name) _ (files_used (nodes ps)) (λ i d lt. s.files (get_or (files_used (nodes ps)) i d).0 (get_or (files_used (nodes ps)) i d).1);
@@ -198,12 +192,10 @@ module _ (events : List EventPeriod) (harts : ℕ) (naming : Naming) (ps : List 
   event_content_read = stored_read made event_content_stored
 
   pub event_content_tabled : (place : ℕ) → place < length events → IfOk (events_in (events_spelling made)) (λ c. content_table (content_of_event c place)
-      ≡ top_down (period_at events place) harts naming (paths_of_event (length events) place ps))
+      ≡ top_down (period_at events place) (sum runs) naming (paths_of_event (length events) place ps))
   event_content_tabled place inside =
-      let all : sum (one_run harts) ≡ harts = omega arith in
-      subst (λ r. IfOk r (λ c. content_table (content_of_event c place) ≡ top_down (period_at events place) harts naming (paths_of_event (length events) place ps))) (sym event_content_read)
-      (event_table events (one_run harts) naming ps s.are_events few some s.below place inside
-      ∙ ap (λ (n : ℕ). top_down (period_at events place) n naming (paths_of_event (length events) place ps)) all)
+      subst (λ r. IfOk r (λ c. content_table (content_of_event c place) ≡ top_down (period_at events place) (sum runs) naming (paths_of_event (length events) place ps))) (sym event_content_read)
+      (event_table events runs naming ps s.are_events few some s.below place inside)
 
 -- ---- of retired alone
 
@@ -211,10 +203,13 @@ module _ (period columns : ℕ) (naming : Naming) (ps : List ColumnPath) (s : Ar
   abbrev retired : EventPeriod
   retired = record { event = Retired; period = period }
 
-  all_columns : columns ≡ columns_of 1 (one_run columns)
+  abbrev one_run : List ℕ
+  one_run = columns ∷ []
+
+  all_columns : columns ≡ columns_of 1 one_run
   all_columns = omega arith
 
-  as_events : AreEventsStored (retired ∷ []) columns naming ps
+  as_events : AreEventsStored (retired ∷ []) one_run naming ps
   as_events = record {
     are_events = record {
       some = omega arith;
@@ -222,8 +217,9 @@ module _ (period columns : ℕ) (naming : Naming) (ps : List ColumnPath) (s : Ar
       periods = All-cons (λ (e : EventPeriod). 1 ≤ e.period) retired [] s.some_period (All-nil (λ (e : EventPeriod). 1 ≤ e.period));
     };
     small_periods = All-cons (λ (e : EventPeriod). IsWord e.period) retired [] s.small_period (All-nil (λ (e : EventPeriod). IsWord e.period));
-    some_harts = s.some_columns;
-    most_harts = s.most_harts;
+    some_runs = omega arith;
+    few_runs = omega arith;
+    harts = All-cons (λ (h : ℕ). (0 < h) × (h ≤ most_harts)) columns [] (s.some_columns, s.most_harts) (All-nil (λ (h : ℕ). (0 < h) × (h ≤ most_harts)));
     below = subst (λ (n : ℕ). All (λ p. p.column < n) ps) all_columns s.below;
     few_samples = s.few_samples;
     few_nodes = s.few_nodes;
@@ -234,19 +230,23 @@ module _ (period columns : ℕ) (naming : Naming) (ps : List ColumnPath) (s : Ar
     files = s.files;
   }
 
-  single_same : single_content (made (retired ∷ []) columns naming ps as_events) ≡ content_of period columns naming ps
+  single_same : single_content (made (retired ∷ []) one_run naming ps as_events) ≡ content_of period columns naming ps
   single_same =
-      let all : sum (one_run columns) ≡ columns = omega arith in
-      single_made retired (one_run columns) naming ps ∙ ap (λ (n : ℕ). content_of period n naming ps) all
+      let all : sum one_run ≡ columns = omega arith in
+      single_made retired one_run naming ps ∙ ap (λ (n : ℕ). content_of period n naming ps) all
 
-  retired_alone : (made (retired ∷ []) columns naming ps as_events).events ≡ retired ∷ []
+  retired_alone : (made (retired ∷ []) one_run naming ps as_events).events ≡ retired ∷ []
   unfolding event_content_of
   retired_alone = refl
+
+  one_run_alone : length (made (retired ∷ []) one_run naming ps as_events).runs ≡ 1
+  unfolding event_content_of
+  one_run_alone = refl
 
   pub content_stored : IsStored (content_of period columns naming ps)
   content_stored =
       subst IsStored single_same
-      (stored_single (made (retired ∷ []) columns naming ps as_events) period retired_alone (event_content_stored (retired ∷ []) columns naming ps as_events))
+      (stored_single (made (retired ∷ []) one_run naming ps as_events) period retired_alone one_run_alone (event_content_stored (retired ∷ []) one_run naming ps as_events))
 
   -- it is read as it was written, and has the paths' table
   pub content_read : database_in (database_spelling (content_of period columns naming ps)) ≡ Ok (content_of period columns naming ps)
@@ -256,4 +256,4 @@ module _ (period columns : ℕ) (naming : Naming) (ps : List ColumnPath) (s : Ar
   content_tabled =
       let e = as_events in
       subst (λ r. IfOk r (λ c. content_table c ≡ top_down period columns naming ps)) (sym content_read)
-      (table_is period columns naming ps s.some_period (few (retired ∷ []) columns naming ps e) (some (retired ∷ []) columns naming ps e) s.below)
+      (table_is period columns naming ps s.some_period (few (retired ∷ []) one_run naming ps e) (some (retired ∷ []) one_run naming ps e) s.below)

@@ -35,8 +35,8 @@ module _ (c : EventContent) (s : IsEventStored c) where
   abbrev many : ℕ
   many = columns c s
 
-  pub most_columns : many ≤ 64
-  most_columns = few_columns (length c.events) c.runs (few_events c.events s.profile.events) s.one_run (λ i d lt. (s.profile.harts i d lt).1)
+  pub most_columns : many ≤ 4096
+  most_columns = few_columns (length c.events) c.runs (few_events c.events s.profile.events) s.few_runs (λ i d lt. (s.profile.harts i d lt).1)
 
   abbrev vs : List NodeValue
   vs = values c s
@@ -113,7 +113,8 @@ module _ (c : EventContent) (s : IsEventStored c) where
       let procs = few_procs c s in
       let files = few_files c s in
       record {
-        one_run = s.one_run;
+        some_runs = s.profile.some;
+        few_runs = s.few_runs;
         periods = s.periods;
         harts = λ i d lt. (let most = (s.profile.harts i d lt).1 in omega (arith, most));
         many_events = omega (arith, events);

@@ -140,7 +140,7 @@ module _ (c : EventContent) (s : IsEventStored c) (laid : IsLaid c) where
   head_ok =
       let few = s.nodes in
       let many = same_many bare_node (raw_node names) laid.nodes c.nodes laid.same_nodes in
-      head_keeps c s.one_run s.profile.events s.profile.harts (length laid.nodes) (omega (arith, many, few))
+      head_keeps c s.profile.some s.few_runs s.profile.events s.profile.harts (length laid.nodes) (omega (arith, many, few))
 
   events_are : map event_of (map raw_event c.events) ≡ c.events
   events_are = map_of_map event_of raw_event c.events ∙ all_same (λ (e : EventPeriod). event_of (raw_event e)) c.events (λ i d lt. event_again (get_or c.events i d))

@@ -1,5 +1,5 @@
 -- Version 1: contents of one run in which retired is the only event.
-use Rattle.std.proofs.Common.{◌≡◌, ℕ, ◌<◌, ◌≤◌, true, cond, Result, Ok, Err, IfOk, List, [], ◌∷◌, ◌++◌, length, map, sum, All, refl, sym, ap, subst, ◌∙◌, arith, append_assoc}
+use Rattle.std.proofs.Common.{◌≡◌, ℕ, ◌<◌, ◌≤◌, true, cond, Result, Ok, Err, IfOk, List, [], ◌∷◌, ◌++◌, length, map, sum, All, sym, ap, subst, ◌∙◌, arith, append_assoc}
 use Rattle.std.proofs.lemmas.List.Elements.{All-cons, All-head, All-nil}
 use Rattle.prof_bytes.specs.Number.{IsBytes, words}
 use Rattle.prof_bytes.specs.Outcome.{Gives}
@@ -20,7 +20,7 @@ use Rattle.tree_types.proofs.OneEvent.{single_is, with_paths, with_profile}
 use Rattle.prof_db.specs.declared.fault.DbFault.{DbFault}
 use Rattle.prof_db.specs.declared.raw.RawEvent.{RawEvent}
 use Rattle.prof_db.specs.declared.raw.Version.{Version}
-use Rattle.prof_db.specs.declared.raw.Version.TheVariants.{One, Two}
+use Rattle.prof_db.specs.declared.raw.Version.TheVariants.{One, Two, Three}
 use Rattle.prof_db.specs.Fields.{fault}
 use Rattle.prof_db.specs.HeadRules.{event_of}
 use Rattle.prof_db.specs.Layout.{begins, version_in}
@@ -29,8 +29,8 @@ use Rattle.prof_db.specs.Spelling.{database_magic, database_spelling, events_spe
 use Rattle.prof_db.specs.Stored.{IsEventStored, IsStored, IsWord, is_call_path}
 use Rattle.prof_db.proofs.BackFile.{read_spelled}
 use Rattle.prof_db.proofs.ForthHead.{own_begins}
-use Rattle.prof_db.proofs.Headed.{IsAlone, IsRead, read}
-use Rattle.prof_db.proofs.Owned.{read_one_run, read_owned}
+use Rattle.prof_db.proofs.Headed.{HasRuns, IsAlone, IsRead, read}
+use Rattle.prof_db.proofs.Owned.{read_owned}
 use Rattle.prof_db.proofs.Passed.{passed}
 use Rattle.prof_db.proofs.StoredRules.{stored_read}
 
@@ -72,7 +72,7 @@ stored_as_event c s =
     let retired : EventPeriod = record { event = Retired; period = c.period } in
     record {
       profile = with_profile Retired c s.profile s.some_columns s.most_harts;
-      one_run = refl;
+      few_runs = omega arith;
       periods = All-cons (λ (e : EventPeriod). IsWord e.period) retired [] s.period (All-nil (λ (e : EventPeriod). IsWord e.period));
       nodes = s.nodes;
       lists = s.lists;
@@ -92,9 +92,9 @@ one_harts (h ∷ []) one harts =
     (omega (arith, some, all), omega (arith, most, all))
 one_harts (h ∷ k ∷ runs) one harts = absurd (omega arith)
 
-pub stored_single : (c : EventContent) (period : ℕ) → c.events ≡ retired_every period → IsEventStored c → IsStored (single_content c)
-stored_single c period events s =
-    let harts = one_harts c.runs s.one_run s.profile.harts in
+pub stored_single : (c : EventContent) (period : ℕ) → c.events ≡ retired_every period → length c.runs ≡ 1 → IsEventStored c → IsStored (single_content c)
+stored_single c period events one s =
+    let harts = one_harts c.runs one s.profile.harts in
     let first : period_at c.events 0 ≡ period = ap (λ (es : List EventPeriod). period_at es 0) events in
     let small : IsWord period = All-head (λ (e : EventPeriod). IsWord e.period) (record { event = Retired; period = period }) [] (subst (λ (es : List EventPeriod). All (λ e. IsWord e.period) es) events s.periods) in
     record {
@@ -105,7 +105,7 @@ stored_single c period events s =
       nodes = s.nodes;
       lists = s.lists;
       paths = subst (λ (ps : List ColumnPath). All (λ p. is_call_path p.path ≡ true) ps)
-          (ap event_paths_of (sym (single_again c period events s.one_run)) ∙ with_paths Retired (single_content c)) s.paths;
+          (ap event_paths_of (sym (single_again c period events one)) ∙ with_paths Retired (single_content c)) s.paths;
       scopes = s.scopes;
       procs = s.procs;
       files = s.files;
@@ -134,19 +134,24 @@ pub record IsOne (bytes : List ℕ) (c : Content) : Type 0 where
   pub is : events_in bytes ≡ Ok all
   pub period : ℕ
   pub events : all.events ≡ retired_every period
+  pub one : length all.runs ≡ 1
   pub same : single_content all ≡ c
 
 version_one : (bytes : List ℕ) (version : Version) → begins (database_magic One) bytes ≡ true → version_in bytes ≡ Ok version → version ≡ One
-version_one bytes version first is = sym (ok_same One version (sym (ap (λ b. cond b (Ok One) (cond (begins (database_magic Two) bytes) (Ok Two) (Err (fault 1 0)))) first) ∙ is))
+version_one bytes version first is = sym (ok_same One version (sym (ap (λ b. cond b (Ok One) (cond (begins (database_magic Two) bytes) (Ok Two) (cond (begins (database_magic Three) bytes) (Ok Three) (Err (fault 1 0))))) first) ∙ is))
 
-pub read_events : (bytes : List ℕ) (all : EventContent) → version_1_kept bytes ≡ Ok tt → events_in bytes ≡ Ok all → (period : ℕ) × (all.events ≡ retired_every period)
+pub read_events : (bytes : List ℕ) (all : EventContent) → version_1_kept bytes ≡ Ok tt → events_in bytes ≡ Ok all → (period : ℕ) × (all.events ≡ retired_every period) × (length all.runs ≡ 1)
 read_events bytes all kept is =
     let first = pass_ok (begins (database_magic One) bytes) (fault 1 0) (Ok tt) tt kept in
     let p = passed bytes all is in
     let r : IsRead bytes p.0 = read bytes p.0 p.1 in
     let one = version_one bytes r.version first.0 r.begun in
     let alone : IsAlone One p.0.events = subst (λ (v : Version). IsAlone v p.0.events) one r.is.alone in
-    (alone.0, ap (λ (k : EventContent). k.events) (sym p.2.is) ∙ ap (λ (es : List RawEvent). map event_of es) alone.1)
+    let runs : HasRuns One p.0.runs = subst (λ (v : Version). HasRuns v p.0.runs) one r.is.counted in (
+      alone.0,
+      ap (λ (k : EventContent). k.events) (sym p.2.is) ∙ ap (λ (es : List RawEvent). map event_of es) alone.1,
+      ap (λ (k : EventContent). length k.runs) (sym p.2.is) ∙ runs,
+    )
 
 read_one : (bytes : List ℕ) (c : Content) → database_in bytes ≡ Ok c → IsOne bytes c
 unfolding database_in
@@ -154,7 +159,7 @@ read_one bytes c is =
     let a = bind_ok (version_1_kept bytes) _ _ is in
     let b = bind_ok (events_in bytes) _ _ a.2 in
     let alone = read_events bytes b.0 a.1 b.1 in
-    record { all = b.0; is = b.1; period = alone.0; events = alone.1; same = ok_same (single_content b.0) c b.2 }
+    record { all = b.0; is = b.1; period = alone.0; events = alone.1; one = alone.2; same = ok_same (single_content b.0) c b.2 }
 
 -- a content that is read is that of its own paths
 pub read_one_owned : (bytes : List ℕ) (c : Content) → database_in bytes ≡ Ok c → IsProfile c
@@ -166,7 +171,7 @@ unfolding database_spelling
 read_one_spelled bytes c are is =
     let r = read_one bytes c is in
     read_spelled bytes r.all are r.is
-    ∙ ap events_spelling (sym (single_again r.all r.period r.events (read_one_run bytes r.all r.is)) ∙ ap (with_event Retired) r.same)
+    ∙ ap events_spelling (sym (single_again r.all r.period r.events r.one) ∙ ap (with_event Retired) r.same)
 
 pub read_one_again : (bytes : List ℕ) (c : Content) → IsBytes bytes → database_in bytes ≡ Ok c → database_in (database_spelling c) ≡ Ok c
 read_one_again bytes c are is = subst (λ (b : List ℕ). database_in b ≡ Ok c) (read_one_spelled bytes c are is) is

@@ -20,7 +20,7 @@ use Rattle.prof_db.specs.declared.raw.RawNode.{RawNode}
 use Rattle.prof_db.specs.declared.raw.RawEntry.{RawEntry}
 use Rattle.prof_db.specs.declared.raw.RawEvent.{RawEvent}
 use Rattle.prof_db.specs.declared.raw.Version.{Version}
-use Rattle.prof_db.specs.declared.raw.Version.TheVariants.{One, Two}
+use Rattle.prof_db.specs.declared.raw.Version.TheVariants.{One, Two, Three}
 use Rattle.prof_bytes.specs.Repeated.{times, adding}
 use Rattle.prof_db.specs.Fields.{DbRead, fault, not_whole, number_field, word_field, bytes_field}
 use Rattle.prof_db.specs.Spelling.{database_magic}
@@ -58,10 +58,20 @@ head_of_two at = do
   (harts, next) ← word_field next
   counts_from Two events (harts ∷ []) next
 
+-- version 3: how many events, each with its period; how many runs, the harts of each, and the counts
+unfoldable pub head_of_three : At → DbRead Head
+head_of_three at = do
+  (count, next) ← word_field at
+  (events, next) ← times (adding event_from) count 0 [] next
+  (many, next) ← word_field next
+  (runs, next) ← times (adding word_field) many 0 [] next
+  counts_from Three events runs next
+
 -- the head, as its version spells it
 abbrev pub head_from : Version → At → DbRead Head
 head_from One at = head_of_one at
 head_from Two at = head_of_two at
+head_from Three at = head_of_three at
 
 -- the length, and the bytes
 unfoldable pub stored_text_from : At → DbRead (List ℕ)
@@ -208,7 +218,8 @@ after_magic bytes = record { whole = bytes; offset = 8 }
 -- the first rule: a database begins with the eight bytes of one of the versions
 abbrev pub version_in : List ℕ → Result Version DbFault
 version_in bytes = if begins (database_magic One) bytes then Ok One
-    else if begins (database_magic Two) bytes then Ok Two else Err (fault 1 0)
+    else if begins (database_magic Two) bytes then Ok Two
+    else if begins (database_magic Three) bytes then Ok Three else Err (fault 1 0)
 
 -- the version, its head, and what all versions share
 unfoldable pub layout_in : List ℕ → Result Layout DbFault

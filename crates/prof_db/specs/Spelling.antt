@@ -1,12 +1,11 @@
 -- The bytes of a database in this project's format (docs/FORMATS.md, Database): the head of its version, and then what
 -- all versions share.
-use Rattle.std.specs.Prelude.{ℕ, ◌==◌, ◌&&◌, List, [], ◌∷◌, ◌++◌, length, codes, if◌then◌else◌}
+use Rattle.std.specs.Prelude.{ℕ, nat_le, List, [], ◌∷◌, ◌++◌, length, codes, if◌then◌else◌}
 use Rattle.std.specs.List.{flat_map, position_or_len}
 use Rattle.prof_bytes.specs.Number.{number_bytes, word, words}
 use Rattle.std.specs.Ordering.{is_eq}
-use Rattle.scope_types.specs.Events.{event_number, is_retired_alone, periods_of}
+use Rattle.scope_types.specs.Events.{event_words, is_retired_alone, periods_of}
 use Rattle.scope_types.specs.declared.event.Event.TheVariants.{Retired}
-use Rattle.scope_types.specs.declared.event.EventPeriod.{EventPeriod}
 use Rattle.scope_types.specs.declared.scope.ProcId.{ProcId}
 use Rattle.scope_types.specs.declared.scope.LineId.{LineId}
 use Rattle.scope_types.specs.declared.scope.LineId.TheVariants.{Row, Address}
@@ -25,7 +24,7 @@ use Rattle.tree_types.specs.Naming.{proc_order, file_order}
 use Rattle.tree_types.specs.NodeValues.{kind_rank}
 use Rattle.tree_types.specs.OfContent.{with_event}
 use Rattle.prof_db.specs.declared.raw.Version.{Version}
-use Rattle.prof_db.specs.declared.raw.Version.TheVariants.{One, Two}
+use Rattle.prof_db.specs.declared.raw.Version.TheVariants.{One, Two, Three}
 
 -- a number of eight bytes
 abbrev pub long : ℕ → List ℕ
@@ -82,23 +81,22 @@ with_count spelled xs = word (length xs) ++ flat_map spelled xs
 
 -- ---- the head, by version
 
--- version 1 is written where retired is the only event of one run, version 2 else
+-- version 3 is written where there are two or more runs; else version 1 where retired is the only event; else version 2
 abbrev pub version_of : EventContent → Version
-version_of c = if is_retired_alone c.events && length c.runs == 1 then One else Two
+version_of c = if nat_le 2 (length c.runs) then Three else if is_retired_alone c.events then One else Two
 
 -- what a file begins with
 abbrev pub database_magic : Version → List ℕ
 database_magic One = codes "HPCPROF1"
 database_magic Two = codes "HPCPROF2"
+database_magic Three = codes "HPCPROF3"
 
--- an event's number and its period
-abbrev pub event_numbers : EventPeriod → List ℕ
-event_numbers e = event_number e.event ∷ e.period ∷ []
-
--- version 1 has the period and the harts; version 2 how many events, each with its period, and the harts
+-- version 1 has the period and the harts; version 2 how many events, each with its period, and the harts; version 3 the
+-- events so, how many runs, and the harts of each
 abbrev pub head_numbers : Version → EventContent → List ℕ
 head_numbers One c = periods_of c.events ++ c.runs
-head_numbers Two c = length c.events ∷ flat_map event_numbers c.events ++ c.runs
+head_numbers Two c = length c.events ∷ flat_map event_words c.events ++ c.runs
+head_numbers Three c = length c.events ∷ flat_map event_words c.events ++ (length c.runs ∷ c.runs)
 
 -- the first eight bytes, and the numbers of the version
 abbrev pub database_head : EventContent → List ℕ

@@ -4,7 +4,7 @@ use Rattle.std.specs.Prelude.{◌≡◌, ◌≤◌, ◌<◌, ◌^◌, ◌&&◌, 
 use Rattle.scope_types.specs.CallPaths.{ColumnPath}
 use Rattle.scope_types.specs.Columns.{columns_of}
 use Rattle.scope_types.specs.Events.{AreEvents}
-use Rattle.scope_types.specs.Limits.{most_name_bytes, most_scopes_in_all, most_harts, most_samples}
+use Rattle.scope_types.specs.Limits.{most_harts, most_name_bytes, most_runs, most_samples, most_scopes_in_all}
 use Rattle.scope_types.specs.Words.{scope_words}
 use Rattle.scope_types.specs.declared.event.EventPeriod.{EventPeriod}
 use Rattle.scope_types.specs.declared.scope.ProcId.{ProcId}
@@ -82,10 +82,10 @@ pub record AreStored (period columns : ℕ) (naming : Naming) (paths : List Colu
 
 -- ---- contents of several events
 
--- the same of a content of several events and one run
+-- the same of a content of several events and runs
 pub record IsEventStored (c : EventContent) : Type 0 where
   pub profile : IsEventProfile c
-  pub one_run : length c.runs ≡ 1
+  pub few_runs : length c.runs ≤ most_runs
   pub periods : All (λ e. IsWord e.period) c.events
   pub nodes : length c.nodes < no_parent
   pub lists : All (λ list. IsWord (length list)) c.profiles
@@ -94,14 +94,15 @@ pub record IsEventStored (c : EventContent) : Type 0 where
   pub procs : All IsNamed c.names.procs
   pub files : All (λ f. IsShort f.name) c.names.files
 
--- events, harts and call paths of a run, within the limits of a profile, with names that the format has room for
-pub record AreEventsStored (events : List EventPeriod) (harts : ℕ) (naming : Naming)
+-- events, the harts of each run and call paths, within the limits of a profile, with names that the format has room for
+pub record AreEventsStored (events : List EventPeriod) (runs : List ℕ) (naming : Naming)
     (paths : List ColumnPath) : Type 0 where
   pub are_events : AreEvents events
   pub small_periods : All (λ e. IsWord e.period) events
-  pub some_harts : 1 ≤ harts
-  pub most_harts : harts ≤ most_harts
-  pub below : All (λ p. p.column < columns_of (length events) (harts ∷ [])) paths
+  pub some_runs : 1 ≤ length runs
+  pub few_runs : length runs ≤ most_runs
+  pub harts : All (λ h. (0 < h) × (h ≤ most_harts)) runs
+  pub below : All (λ p. p.column < columns_of (length events) runs) paths
   pub few_samples : length paths ≤ most_samples
   pub few_nodes : length (nodes paths) ≤ most_scopes_in_all
   pub call_paths : All (λ p. is_call_path p.path ≡ true) paths

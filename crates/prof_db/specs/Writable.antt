@@ -2,7 +2,7 @@
 use Rattle.std.specs.Prelude.{◌≡◌, ◌≤◌, All, length}
 use Rattle.scope_types.specs.Columns.{columns_of}
 use Rattle.scope_types.specs.Events.{AreEvents}
-use Rattle.scope_types.specs.Limits.{most_harts}
+use Rattle.scope_types.specs.Limits.{most_harts, most_runs}
 use Rattle.tree_types.specs.declared.content.Content.{Content}
 use Rattle.tree_types.specs.declared.content.EventContent.{EventContent}
 use Rattle.tree_types.specs.NamesAscend.{NamesAscend}
@@ -16,10 +16,11 @@ pub record IsWritable (c : Content) : Type 0 where
   pub lists : length c.contexts ≡ length c.nodes
   pub nodes : length c.nodes ≤ no_parent
 
--- the same of a content of several events: events that a run may have, and one run, with 16 harts at most
+-- the same of a content of several events: events that a run may have, and 1 to 16 runs, with 64 harts at most each
 pub record IsEventWritable (c : EventContent) : Type 0 where
   pub events : AreEvents c.events
-  pub one_run : length c.runs ≡ 1
+  pub some_runs : 1 ≤ length c.runs
+  pub few_runs : length c.runs ≤ most_runs
   pub most_harts : All (λ h. h ≤ most_harts) c.runs
   pub names : NamesAscend c.names
   pub columns : length c.profiles ≡ columns_of (length c.events) c.runs

@@ -2,8 +2,9 @@
 ghost use Rattle.std.specs.Prelude.{◌≡◌, ◌<◌, ◌^◌, ◌∷◌, [], length, IfOk};
 ghost use Rattle.prof_bytes.specs.Outcome.{GivesAt, GivesFrom};
 ghost use Rattle.prof_bytes.specs.Repeated.{adding, times};
-ghost use Rattle.prof_db.specs.Layout.{begins, counts_from, event_from, head_from, head_of_one, head_of_two};
-ghost use Rattle.prof_db.specs.Layout.{version_in};
+ghost use Rattle.prof_db.specs.Fields.{word_field};
+ghost use Rattle.prof_db.specs.Layout.{begins, counts_from, event_from, head_from, head_of_one, head_of_three};
+ghost use Rattle.prof_db.specs.Layout.{head_of_two, version_in};
 ghost use Rattle.prof_db.specs.Rules.{version_1_kept};
 ghost use Rattle.prof_db.specs.Spelling.{database_magic};
 
@@ -20,6 +21,7 @@ pub(crate) fn magic_of(version: Version) -> &'static [u8]
     match version {
         Version::One => b"HPCPROF1",
         Version::Two => b"HPCPROF2",
+        Version::Three => b"HPCPROF3",
     }
 }
 
@@ -38,6 +40,9 @@ pub(crate) fn version_in(bytes: &[u8]) -> Result<Version, DbFault>
     }
     if begins(Version::Two, bytes) {
         return Ok(Version::Two);
+    }
+    if begins(Version::Three, bytes) {
+        return Ok(Version::Three);
     }
     Err(fault_at(1, 0))
 }
@@ -117,7 +122,6 @@ fn only<T: Drop>(alloc: Global, item: T) -> Result<Vec<T>, Memory>
 #[tactic(auto, unfolding(crate::specs::Layout::head_of_one))]
 fn read_head_of_one(alloc: Global, cursor: &mut Cursor<'_>) -> Result<Head, Fail<DbFault>>
     ensures head { GivesFrom (λ head. head) result cursor.new (head_of_one cursor.old) }
-    ensures run { IfOk result (λ head. length head.runs ≡ 1) }
     ensures events { IfOk result (λ head. length head.events < 2 ^ 32) }
 {
     let period = read_word(cursor)?;
@@ -131,7 +135,6 @@ fn read_head_of_one(alloc: Global, cursor: &mut Cursor<'_>) -> Result<Head, Fail
 #[tactic(auto, unfolding(crate::specs::Layout::head_of_two))]
 fn read_head_of_two(alloc: Global, cursor: &mut Cursor<'_>) -> Result<Head, Fail<DbFault>>
     ensures head { GivesFrom (λ head. head) result cursor.new (head_of_two cursor.old) }
-    ensures run { IfOk result (λ head. length head.runs ≡ 1) }
     ensures events { IfOk result (λ head. length head.events < 2 ^ 32) }
 {
     let count = read_word(cursor)?;
@@ -141,6 +144,31 @@ fn read_head_of_two(alloc: Global, cursor: &mut Cursor<'_>) -> Result<Head, Fail
     Ok(read_counts(cursor, Version::Two, events, runs)?)
 }
 
+/// The harts of `count` runs. The list grows as they are read.
+fn read_runs(alloc: Global, cursor: &mut Cursor<'_>, count: u32) -> Result<Vec<u32>, Fail<DbFault>>
+    ensures { GivesFrom (λ v. v.items) result cursor.new (times (adding word_field) count 0 [] cursor.old) }
+{
+    let mut runs = Vec::new(alloc);
+    for _ in 0..count {
+        let harts = read_word(cursor)?;
+        runs.push(harts)?;
+    }
+    Ok(runs)
+}
+
+/// The head of version 3.
+#[tactic(auto, unfolding(crate::specs::Layout::head_of_three))]
+fn read_head_of_three(alloc: Global, cursor: &mut Cursor<'_>) -> Result<Head, Fail<DbFault>>
+    ensures head { GivesFrom (λ head. head) result cursor.new (head_of_three cursor.old) }
+    ensures events { IfOk result (λ head. length head.events < 2 ^ 32) }
+{
+    let count = read_word(cursor)?;
+    let events = read_events(alloc, cursor, count)?;
+    let many = read_word(cursor)?;
+    let runs = read_runs(alloc, cursor, many)?;
+    Ok(read_counts(cursor, Version::Three, events, runs)?)
+}
+
 /// The head of a version.
 pub(crate) fn read_head(
     alloc: Global,
@@ -148,11 +176,11 @@ pub(crate) fn read_head(
     version: Version,
 ) -> Result<Head, Fail<DbFault>>
     ensures head { GivesFrom (λ head. head) result cursor.new (head_from version cursor.old) }
-    ensures run { IfOk result (λ head. length head.runs ≡ 1) }
     ensures events { IfOk result (λ head. length head.events < 2 ^ 32) }
 {
     match version {
         Version::One => read_head_of_one(alloc, cursor),
         Version::Two => read_head_of_two(alloc, cursor),
+        Version::Three => read_head_of_three(alloc, cursor),
     }
 }

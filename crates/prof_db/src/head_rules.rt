@@ -2,22 +2,20 @@
 ghost use Rattle.std.specs.Prelude.{◌≡◌, ◌<◌, ◌≤◌, length, map, IfOk, OnOk};
 ghost use Rattle.scope_types.specs.Events.{periods_of};
 ghost use Rattle.prof_db.specs.HeadRules.{are_elsewhere, broken_offset, event_breaks, event_count_is_wrong};
-ghost use Rattle.prof_db.specs.HeadRules.{event_is_wrong, event_named, event_of, event_offset, events_kept};
-ghost use Rattle.prof_db.specs.HeadRules.{harts_offset, head_kept, most_events, nodes_offset, period_offset};
-ghost use Rattle.prof_db.specs.HeadRules.{run_breaks, runs_kept};
+ghost use Rattle.prof_db.specs.HeadRules.{event_is_wrong, event_of, event_offset, events_kept};
+ghost use Rattle.scope_types.specs.Limits.{most_events, most_runs};
+ghost use Rattle.prof_db.specs.HeadRules.{harts_offset, head_kept, nodes_offset, period_offset};
+ghost use Rattle.prof_db.specs.HeadRules.{run_breaks, run_count_is_wrong, run_count_offset, runs_kept};
 ghost use Rattle.prof_db.specs.private.Heads.{IsHead};
 
 use crate::fault::DbFault;
 use crate::fields::fault_at;
 use crate::raw::{Layout, RawEvent, Version};
 use prof_bytes::Memory;
-use scope_types::limits::MOST_HARTS;
+use scope_types::limits::{MOST_EVENTS, MOST_HARTS, MOST_RUNS};
 use scope_types::{Event, EventPeriod};
 use std::alloc::Global;
 use tree_types::NO_PARENT;
-
-/// How many events there are to be sampled.
-const MOST_EVENTS: u32 = 4;
 
 fn are_elsewhere(version: Version, events: &[RawEvent]) -> bool
     ensures { result ≡ are_elsewhere version events.now }
@@ -25,20 +23,21 @@ fn are_elsewhere(version: Version, events: &[RawEvent]) -> bool
     match version {
         Version::One => false,
         Version::Two => events.len() == 1 && events[0].event == 0,
+        Version::Three => false,
     }
 }
 
 fn event_count_is_wrong(version: Version, events: &[RawEvent]) -> bool
     ensures { result ≡ event_count_is_wrong version events.now }
 {
-    events.is_empty() || (events.len() > MOST_EVENTS as usize || are_elsewhere(version, events))
+    events.is_empty() || (events.len() > MOST_EVENTS || are_elsewhere(version, events))
 }
 
 fn event_is_wrong(events: &[RawEvent], i: usize) -> bool
     requires { i < length events.now }
     ensures { result ≡ event_is_wrong events.now i }
 {
-    events[i].event >= MOST_EVENTS || (i > 0 && events[i].event <= events[i - 1].event)
+    events[i].event >= MOST_EVENTS as u32 || (i > 0 && events[i].event <= events[i - 1].event)
 }
 
 fn event_is_broken(events: &[RawEvent], i: usize) -> bool
@@ -61,7 +60,7 @@ fn period_offset(version: Version, i: usize) -> u64
 {
     match version {
         Version::One => 8,
-        Version::Two => 16 + 8 * i as u64,
+        Version::Two | Version::Three => 16 + 8 * i as u64,
     }
 }
 
@@ -85,6 +84,7 @@ fn harts_offset(version: Version, events: usize) -> u64
     match version {
         Version::One => 12,
         Version::Two => 12 + 8 * events as u64,
+        Version::Three => 16 + 8 * events as u64,
     }
 }
 
@@ -101,6 +101,22 @@ fn judge_events(version: Version, events: &[RawEvent]) -> Result<(), DbFault>
     Ok(())
 }
 
+fn run_count_is_wrong(version: Version, runs: &[u32]) -> bool
+    ensures { result ≡ run_count_is_wrong version runs.now }
+{
+    match version {
+        Version::One | Version::Two => runs.len() != 1,
+        Version::Three => runs.len() < 2 || runs.len() > MOST_RUNS,
+    }
+}
+
+fn run_count_offset(events: usize) -> u64
+    requires { events ≤ most_events }
+    ensures { result ≡ run_count_offset events }
+{
+    12 + 8 * events as u64
+}
+
 fn run_is_broken(runs: &[u32], i: usize) -> bool
     requires { i < length runs.now }
     ensures { result ≡ run_breaks runs.now i }
@@ -111,7 +127,7 @@ fn run_is_broken(runs: &[u32], i: usize) -> bool
 /// Each run by itself.
 fn judge_runs(version: Version, events: usize, runs: &[u32]) -> Result<(), DbFault>
     requires events { events ≤ most_events }
-    requires runs { length runs.now ≡ 1 }
+    requires runs { length runs.now ≤ most_runs }
     ensures { runs_kept version events runs.now ≡ result }
 {
     for i in 0..runs.len() {
@@ -124,7 +140,7 @@ fn judge_runs(version: Version, events: usize, runs: &[u32]) -> Result<(), DbFau
 
 fn nodes_offset(version: Version, events: usize, runs: usize) -> u64
     requires events { events ≤ most_events }
-    requires runs { runs ≡ 1 }
+    requires runs { runs ≤ most_runs }
     ensures { result ≡ nodes_offset version events runs }
 {
     harts_offset(version, events) + 4 * runs as u64 + 8
@@ -132,7 +148,6 @@ fn nodes_offset(version: Version, events: usize, runs: usize) -> u64
 
 #[tactic(auto, unfolding(crate::specs::HeadRules::head_kept))]
 fn head_rule(layout: &Layout<'_>) -> Result<(), DbFault>
-    requires { length layout.now.runs ≡ 1 }
     ensures { head_kept layout.now.version layout.now.events layout.now.runs (length layout.now.nodes) ≡ result }
 {
     let events = layout.events.items();
@@ -141,6 +156,9 @@ fn head_rule(layout: &Layout<'_>) -> Result<(), DbFault>
         return Err(fault_at(3, 8));
     }
     judge_events(layout.version, events)?;
+    if run_count_is_wrong(layout.version, runs) {
+        return Err(fault_at(3, run_count_offset(events.len())));
+    }
     judge_runs(layout.version, events.len(), runs)?;
     if layout.nodes.items().len() >= NO_PARENT as usize {
         return Err(fault_at(3, nodes_offset(layout.version, events.len(), runs.len())));
@@ -150,22 +168,10 @@ fn head_rule(layout: &Layout<'_>) -> Result<(), DbFault>
 
 /// The third rule.
 pub(crate) fn judge_head(layout: &Layout<'_>) -> Result<(), DbFault>
-    requires { length layout.now.runs ≡ 1 }
     ensures kept { head_kept layout.now.version layout.now.events layout.now.runs (length layout.now.nodes) ≡ result }
     ensures head { OnOk result (IsHead layout.now) }
 {
     head_rule(layout)
-}
-
-fn event_named(number: u32) -> Event
-    ensures { result ≡ event_named number }
-{
-    match number {
-        0 => Event::Retired,
-        1 => Event::Loads,
-        2 => Event::Stores,
-        _ => Event::Taken,
-    }
 }
 
 /// The events of a database.
@@ -175,7 +181,7 @@ pub(crate) fn events_of(alloc: Global, events: &[RawEvent]) -> Result<Vec<EventP
     let mut all = Vec::new(alloc);
     for e in events {
         all.push(EventPeriod {
-            event: event_named(e.event),
+            event: Event::of_number(e.event),
             period: e.period,
         })?;
     }

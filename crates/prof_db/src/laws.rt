@@ -1,5 +1,5 @@
 //! The laws of databases: what is written is read as what it was, and what is read is spelled by the bytes read.
-ghost use Rattle.std.specs.Prelude.{◌≡◌, ℕ, ◌<◌, [], ◌∷◌, true, List, length, Ok, IfOk};
+ghost use Rattle.std.specs.Prelude.{◌≡◌, ℕ, ◌<◌, ◌≤◌, [], ◌∷◌, true, List, length, sum, Ok, IfOk};
 ghost use Rattle.prof_bytes.specs.Number.{IsBytes};
 ghost use Rattle.scope_types.specs.CallPaths.{ColumnPath};
 ghost use Rattle.scope_types.specs.Columns.{paths_of_event};
@@ -12,6 +12,7 @@ ghost use Rattle.tree_types.specs.OfContent.{IsEventProfile, IsProfile, content_
 ghost use Rattle.tree_types.specs.TopDown.{top_down};
 ghost use Rattle.tree_types.specs.declared.content.Content.{Content};
 ghost use Rattle.tree_types.specs.declared.content.EventContent.{EventContent};
+ghost use Rattle.scope_types.specs.Limits.{most_runs};
 ghost use Rattle.prof_db.specs.Laws.{LinesHaveRoom};
 ghost use Rattle.prof_db.specs.Rules.{database_in, events_in};
 ghost use Rattle.prof_db.specs.Spelling.{database_spelling, events_spelling};
@@ -24,15 +25,15 @@ pub fn profiles_are_writable()
     ensures { (c : Content) → IsProfile c → IsWritable c }
 {}
 
-/// A database can be written of each content that a profile of several events and one run may have.
+/// A database can be written of each content that a profile of several events and up to 16 runs may have.
 pub fn event_profiles_are_writable()
-    ensures { (c : EventContent) → IsEventProfile c → length c.runs ≡ 1 → IsEventWritable c }
+    ensures { (c : EventContent) → IsEventProfile c → length c.runs ≤ most_runs → IsEventWritable c }
 {}
 
-/// What is read of a database is a content that a profile of several events may have, of one run.
+/// What is read of a database is a content that a profile of several events may have, of up to 16 runs.
 pub fn event_databases_are_profiles()
     ensures profile { (bytes : List ℕ) (c : EventContent) → events_in bytes ≡ Ok c → IsEventProfile c }
-    ensures one_run { (bytes : List ℕ) (c : EventContent) → events_in bytes ≡ Ok c → length c.runs ≡ 1 }
+    ensures few_runs { (bytes : List ℕ) (c : EventContent) → events_in bytes ≡ Ok c → length c.runs ≤ most_runs }
 {}
 
 /// What is read of a database of any version is spelled by just its bytes, and so is read again of its spelling.
@@ -48,21 +49,21 @@ pub fn stored_event_contents_are_read()
     ensures { (c : EventContent) → IsEventStored c → events_in (events_spelling c) ≡ Ok c }
 {}
 
-/// The content of the call paths of a run, within a profile's limits, is stored: it is read of what is written of it,
+/// The content of the call paths of runs, within a profile's limits, is stored: it is read of what is written of it,
 /// and for each event it has the table of that event's paths.
 pub fn event_call_paths_are_stored()
-    ensures stored { (events : List EventPeriod) (harts : ℕ) (naming : Naming) (paths : List ColumnPath)
-        → AreEventsStored events harts naming paths
-        → IsEventStored (event_content_of events (harts ∷ []) naming paths) }
-    ensures read { (events : List EventPeriod) (harts : ℕ) (naming : Naming) (paths : List ColumnPath)
-        → AreEventsStored events harts naming paths
-        → events_in (events_spelling (event_content_of events (harts ∷ []) naming paths))
-        ≡ Ok (event_content_of events (harts ∷ []) naming paths) }
-    ensures table { (events : List EventPeriod) (harts : ℕ) (naming : Naming) (paths : List ColumnPath) (place : ℕ)
-        → AreEventsStored events harts naming paths → place < length events
-        → IfOk (events_in (events_spelling (event_content_of events (harts ∷ []) naming paths)))
+    ensures stored { (events : List EventPeriod) (runs : List ℕ) (naming : Naming) (paths : List ColumnPath)
+        → AreEventsStored events runs naming paths
+        → IsEventStored (event_content_of events runs naming paths) }
+    ensures read { (events : List EventPeriod) (runs : List ℕ) (naming : Naming) (paths : List ColumnPath)
+        → AreEventsStored events runs naming paths
+        → events_in (events_spelling (event_content_of events runs naming paths))
+        ≡ Ok (event_content_of events runs naming paths) }
+    ensures table { (events : List EventPeriod) (runs : List ℕ) (naming : Naming) (paths : List ColumnPath) (place : ℕ)
+        → AreEventsStored events runs naming paths → place < length events
+        → IfOk (events_in (events_spelling (event_content_of events runs naming paths)))
         (λ c. content_table (content_of_event c place)
-        ≡ top_down (period_at events place) harts naming (paths_of_event (length events) place paths)) }
+        ≡ top_down (period_at events place) (sum runs) naming (paths_of_event (length events) place paths)) }
 {}
 
 /// What is read of a database is a content that a profile may have.

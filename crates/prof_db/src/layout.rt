@@ -1,5 +1,5 @@
 //! The whole of a database cut into fields: its first two rules.
-ghost use Rattle.std.specs.Prelude.{◌≡◌, ◌<◌, ◌^◌, [], length, IfOk};
+ghost use Rattle.std.specs.Prelude.{◌≡◌, ◌-◌, ◌<◌, ◌^◌, [], length, min, IfOk};
 ghost use Rattle.prof_bytes.specs.Outcome.{Gives, GivesAt, GivesFrom};
 ghost use Rattle.prof_bytes.specs.Repeated.{adding, times};
 ghost use Rattle.scope_types.specs.Columns.{columns_of};
@@ -138,13 +138,31 @@ fn pass_lists(cursor: &mut Cursor<'_>, nodes: u32) -> Result<(), DbFault>
     Ok(())
 }
 
-/// How many columns a run has, where so many events are sampled.
+/// How many columns the harts of these runs have, where so many events are sampled; or 2^64 - 1, where these are more.
 pub(crate) fn columns_of(events: usize, runs: &[u32]) -> u64
-    requires events { events < 2 ^ 32 }
-    requires runs { length runs.now ≡ 1 }
-    ensures { result ≡ columns_of events runs.now }
+    ensures { result ≡ min (columns_of events runs.now) (2 ^ 64 - 1) }
 {
-    u64::from(runs[0]) * events as u64
+    let mut harts: u64 = 0;
+    for run in runs {
+        harts = harts.saturating_add(u64::from(*run));
+    }
+    harts.saturating_mul(events as u64)
+}
+
+/// The lists of the columns of these runs and so many events. Each takes four bytes at least, so that one more than the
+/// bytes that are left have room for is at fault, however many there are to read.
+fn read_columns(
+    alloc: Global,
+    cursor: &mut Cursor<'_>,
+    events: usize,
+    runs: &[u32],
+) -> Result<Vec<RawEntry>, Fail<DbFault>>
+    ensures { GivesFrom (λ v. v.items) result cursor.new
+        (times list_from (columns_of events runs.now) 0 [] cursor.old) }
+{
+    let left = cursor.left() as u64;
+    let columns = columns_of(events, runs);
+    read_lists(alloc, cursor, columns.min(left / 4 + 1))
 }
 
 /// The lists that a head counts, the planes, and nothing after them.
@@ -154,17 +172,14 @@ fn read_body<'a>(
     cursor: &mut Cursor<'a>,
     head: Head,
 ) -> Result<Layout<'a>, Fail<DbFault>>
-    requires run { length head.runs ≡ 1 }
-    requires events { length head.events < 2 ^ 32 }
-    ensures layout { Gives (λ layout. layout) result (body_from head cursor.old) }
-    ensures run { IfOk result (λ layout. length layout.runs ≡ 1) }
+    requires { length head.events < 2 ^ 32 }
+    ensures { Gives (λ layout. layout) result (body_from head cursor.old) }
 {
     let procs = read_procs(alloc, cursor, head.procs)?;
     let files = read_files(alloc, cursor, head.files)?;
     let nodes = read_nodes(alloc, cursor, head.nodes)?;
     let profiles = cursor.fork();
-    let columns = columns_of(head.events.items().len(), head.runs.items());
-    let entries = read_lists(alloc, cursor, columns)?;
+    let entries = read_columns(alloc, cursor, head.events.items().len(), head.runs.items())?;
     let contexts = cursor.fork();
     pass_lists(cursor, head.nodes)?;
     if cursor.left() > 0 {
@@ -186,8 +201,7 @@ fn read_body<'a>(
 /// The layout of a database, in time linear in the bytes.
 #[tactic(auto, unfolding(crate::specs::Layout::layout_in))]
 pub(crate) fn read_layout(alloc: Global, bytes: &[u8]) -> Result<Layout<'_>, Fail<DbFault>>
-    ensures layout { Gives (λ layout. layout) result (layout_in bytes.now) }
-    ensures run { IfOk result (λ layout. length layout.runs ≡ 1) }
+    ensures { Gives (λ layout. layout) result (layout_in bytes.now) }
 {
     let version = version_in(bytes)?;
     let mut cursor = Cursor::at(bytes, 8);

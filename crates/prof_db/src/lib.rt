@@ -1,5 +1,5 @@
 //! The database file: a content as bytes, by this project's format. Version 1 has retired alone, version 2 other events
-//! too.
+//! too, version 3 several runs.
 //!
 //! It promises that what is written is byte for byte the content's spelling, and that what is read is just what the
 //! bytes say, or the first of the format's seven rules that they break, with its offset. Below lie `sparse_planes`

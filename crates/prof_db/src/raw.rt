@@ -10,6 +10,8 @@ pub enum Version {
     One,
     /// One run with any events.
     Two,
+    /// Several runs.
+    Three,
 }
 
 /// An event by its number, and its period.

@@ -41,8 +41,7 @@ fn sort(counts: &mut Vec<NodeCount>)
 
 /// How many columns a database has.
 fn columns_in(layout: &Layout<'_>) -> u32
-    requires run { length layout.now.runs ≡ 1 }
-    requires head { IsHead layout.now }
+    requires { IsHead layout.now }
     ensures { result ≡ layout_columns layout.now }
 {
     columns_of(layout.events.items().len(), layout.runs.items()) as u32
@@ -65,7 +64,6 @@ fn periods_in(alloc: Global, layout: &Layout<'_>) -> Result<Vec<u32>, Memory>
 
 /// The sixth rule's first part.
 fn judge_samples(layout: &Layout<'_>, periods: &[u32], nodes: &[Node]) -> Result<(), DbFault>
-    requires run { length layout.now.runs ≡ 1 }
     requires head { IsHead layout.now }
     requires periods { periods.now ≡ periods_of (events_of layout.now) }
     ensures { entries_kept (layout_period layout.now) (layout_columns layout.now) nodes.now layout.now.entries
@@ -82,7 +80,6 @@ fn tree_of(
     periods: &[u32],
     nodes: Vec<Node>,
 ) -> Result<Tree, Memory>
-    requires run { length layout.now.runs ≡ 1 }
     requires head { IsHead layout.now }
     requires periods { periods.now ≡ periods_of (events_of layout.now) }
     requires kept { entries_kept (layout_period layout.now) (layout_columns layout.now) nodes.items layout.now.entries
@@ -117,7 +114,6 @@ fn content_of(
     names: Names,
     nodes: Vec<Node>,
 ) -> Result<EventContent, Memory>
-    requires run { length layout.now.runs ≡ 1 }
     requires head { IsHead layout.now }
     requires events { events.items ≡ events_of layout.now }
     requires periods { periods.now ≡ periods_of (events_of layout.now) }
@@ -175,7 +171,6 @@ fn judge_values(
     names: Names,
     nodes: Vec<Node>,
 ) -> Result<EventContent, Fail<DbFault>>
-    requires run { length layout.now.runs ≡ 1 }
     requires head { IsHead layout.now }
     requires few { length nodes.items < no_parent }
     requires preorder { IsPreorder nodes.items }
@@ -197,7 +192,6 @@ fn judge_tree(
     names: Names,
     nodes: Vec<Node>,
 ) -> Result<EventContent, Fail<DbFault>>
-    requires run { length layout.now.runs ≡ 1 }
     requires head { IsHead layout.now }
     requires few { length nodes.items < no_parent }
     requires numbers { length layout.now.nodes ≡ length nodes.items }

@@ -298,8 +298,9 @@ fn put_shared(
     Ok(())
 }
 
-/// The bytes of a database with a content of several events: of version 1 where retired is the only one, else of
-/// version 2. Names are looked up by binary search; the time grows as the number of nodes and entries otherwise.
+/// The bytes of a database with a content of several events: of version 3 where there are two or more runs; else of
+/// version 1 where retired is the only event; else of version 2. Names are looked up by binary search; the time grows
+/// as the number of nodes and entries otherwise.
 #[tactic(auto, using(crate::proofs::Profiles::few_profiles), unfolding(crate::specs::Spelling::events_spelling))]
 pub fn write_events(alloc: Global, all: &EventContent) -> Result<Text, Memory>
     requires { IsEventWritable all.now }

@@ -1,9 +1,9 @@
 //! The head of a database as bytes, in the version of its content.
-ghost use Rattle.std.specs.Prelude.{◌≡◌, ◌++◌, ◌==◌, ◌&&◌, ◌∷◌, length, OnOk, if◌then◌else◌};
+ghost use Rattle.std.specs.Prelude.{◌≡◌, ◌++◌, nat_le, ◌∷◌, length, OnOk, if◌then◌else◌};
 ghost use Rattle.std.specs.List.{flat_map};
 ghost use Rattle.prof_bytes.specs.Number.{words};
-ghost use Rattle.scope_types.specs.Events.{is_retired_alone, periods_of};
-ghost use Rattle.prof_db.specs.Spelling.{database_head, event_numbers};
+ghost use Rattle.scope_types.specs.Events.{event_words, is_retired_alone, periods_of};
+ghost use Rattle.prof_db.specs.Spelling.{database_head};
 ghost use Rattle.prof_db.specs.declared.raw.Version.TheVariants as versions;
 
 use crate::head::magic_of;
@@ -15,13 +15,16 @@ use tree_types::EventContent;
 
 /// The version in which a content of these events and runs is written.
 fn version_of(events: &[EventPeriod], runs: &[u32]) -> Version
-    ensures { result ≡ (if is_retired_alone events.now && length runs.now == 1 then versions.One else versions.Two) }
+    ensures { result ≡ (if nat_le 2 (length runs.now) then versions.Three
+        else if is_retired_alone events.now then versions.One else versions.Two) }
 {
     let retired_alone = match events {
         [only] => only.event.number() == 0,
         _ => false,
     };
-    if retired_alone && runs.len() == 1 {
+    if runs.len() >= 2 {
+        Version::Three
+    } else if retired_alone {
         Version::One
     } else {
         Version::Two
@@ -38,13 +41,13 @@ fn put_periods(out: &mut Vec<u8>, events: &[EventPeriod]) -> Result<(), Memory>
 }
 
 fn put_event(out: &mut Vec<u8>, e: EventPeriod) -> Result<(), Memory>
-    ensures { OnOk result (out.new.items ≡ out.old.items ++ words (event_numbers e)) }
+    ensures { OnOk result (out.new.items ≡ out.old.items ++ words (event_words e)) }
 {
     put_words(out, &[e.event.number(), e.period])
 }
 
 fn put_events(out: &mut Vec<u8>, events: &[EventPeriod]) -> Result<(), Memory>
-    ensures { OnOk result (out.new.items ≡ out.old.items ++ words (flat_map event_numbers events.now)) }
+    ensures { OnOk result (out.new.items ≡ out.old.items ++ words (flat_map event_words events.now)) }
 {
     for e in events {
         put_event(out, *e)?;
@@ -63,10 +66,21 @@ fn put_head_of_one(out: &mut Vec<u8>, events: &[EventPeriod], runs: &[u32]) -> R
 /// What version 2 has: the number of events, each with its period, and the harts.
 fn put_head_of_two(out: &mut Vec<u8>, events: &[EventPeriod], runs: &[u32]) -> Result<(), Memory>
     ensures { OnOk result (out.new.items ≡ out.old.items
-        ++ words (length events.now ∷ flat_map event_numbers events.now ++ runs.now)) }
+        ++ words (length events.now ∷ flat_map event_words events.now ++ runs.now)) }
 {
     put_u32(out, count(events.len()))?;
     put_events(out, events)?;
+    put_words(out, runs)
+}
+
+/// What version 3 has: the number of events, each with its period, the number of runs, and the harts of each.
+fn put_head_of_three(out: &mut Vec<u8>, events: &[EventPeriod], runs: &[u32]) -> Result<(), Memory>
+    ensures { OnOk result (out.new.items ≡ out.old.items
+        ++ words (length events.now ∷ flat_map event_words events.now ++ (length runs.now ∷ runs.now))) }
+{
+    put_u32(out, count(events.len()))?;
+    put_events(out, events)?;
+    put_u32(out, count(runs.len()))?;
     put_words(out, runs)
 }
 
@@ -81,5 +95,6 @@ pub(crate) fn put_head(out: &mut Vec<u8>, all: &EventContent) -> Result<(), Memo
     match version {
         Version::One => put_head_of_one(out, events, runs),
         Version::Two => put_head_of_two(out, events, runs),
+        Version::Three => put_head_of_three(out, events, runs),
     }
 }

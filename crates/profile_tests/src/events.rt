@@ -44,6 +44,32 @@ event taken period 1 samples 1 total 1
                1  100.0                1                              0x00010018
 ";
 
+/// What stands after the lines on the run: the line and the table of each event.
+pub(crate) const EVENT_TABLES: &str = "\
+event retired period 49 samples 1 total 49
+       inclusive      %            frame  scope
+              49  100.0                0  <thread root>
+              49  100.0               49    _start
+              49  100.0               49      0x00010008
+event taken period 1 samples 1 total 1
+       inclusive      %            frame  scope
+               1  100.0                0  <thread root>
+               1  100.0                0    _start
+               1  100.0                0      call at 0x00010004
+               1  100.0                0        f
+               1  100.0                0          call at 0x00010020
+               1  100.0                0            f
+               1  100.0                0              call at 0x00010020
+               1  100.0                0                f
+               1  100.0                0                  call at 0x00010020
+               1  100.0                0                    f
+               1  100.0                0                      call at 0x00010020
+               1  100.0                0                        f
+               1  100.0                0                          call at 0x00010020
+               1  100.0                1                            f
+               1  100.0                1                              0x00010018
+";
+
 /// The table of the first of these two events.
 const RETIRED_TABLE: &str = "       inclusive      %            frame  scope
               49  100.0                0  <thread root>
@@ -120,7 +146,7 @@ event stores period 1 samples 6 total 6
                1   16.6                1          0x00010014
 ";
 
-const TWO_EVENTS: Run = Run {
+pub(crate) const TWO_EVENTS: Run = Run {
     name: "retired instructions and taken branches",
     file: RECURSION,
     words: "profile p i s retired:49,taken:1 1 d",
@@ -152,7 +178,7 @@ fn reports_of_events(rt: HostRuntime) -> Result<(), Fail> {
 }
 
 /// The database that a profile of this program stores, with no input.
-fn stored_by(
+pub(crate) fn stored_by(
     rt: &(impl Threads + Sync + AllocGlobal),
     elf: &[u8],
     words: &str,

@@ -32,6 +32,8 @@ mod made_databases;
 #[cfg(test)]
 mod measurements;
 #[cfg(test)]
+mod merges;
+#[cfg(test)]
 mod messages;
 #[cfg(test)]
 mod programs;
@@ -44,7 +46,11 @@ mod runs;
 #[cfg(test)]
 mod scopes;
 #[cfg(test)]
+mod several_runs;
+#[cfg(test)]
 mod structures;
+#[cfg(test)]
+mod summaries;
 #[cfg(test)]
 mod view_faults;
 #[cfg(test)]

@@ -2,7 +2,7 @@
 use dwarf_info::InfoFault;
 use dwarf_inline::StructureFault;
 use elf_image::{ElfFault, ElfRule};
-use hpc_top::{FileKind, InputFault};
+use hpc_top::{FileKind, InputFault, MergeFault};
 use std::alloc::Global;
 use std::test::Fail;
 
@@ -43,8 +43,28 @@ const ANOTHER_PROGRAM: InputFault = InputFault::WrongProgram {
     found_entry: 4_294_967_295,
 };
 
+macro_rules! merging {
+    ($place:expr, $fault:expr) => {
+        InputFault::Merging {
+            place: $place,
+            fault: $fault,
+        }
+    };
+}
+
+/// Of the second of several measurements.
+const ANOTHER_PROGRAM_THERE: InputFault = merging!(
+    1,
+    MergeFault::WrongProgram {
+        kept_length: 168,
+        kept_entry: 65_536,
+        found_length: 100,
+        found_entry: 65_536,
+    }
+);
+
 /// Refusals, and their messages.
-static MESSAGES: [(InputFault, &str); 31] = [
+static MESSAGES: [(InputFault, &str); 34] = [
     (
         too_long!(Program, 67_108_864),
         "program longer than 67108864 bytes",
@@ -116,6 +136,15 @@ static MESSAGES: [(InputFault, &str); 31] = [
             rule: 7,
         },
         "database rule 7 at 44",
+    ),
+    (
+        merging!(0, MergeFault::Measurement { offset: 88 }),
+        "measurement 0 at 88",
+    ),
+    (ANOTHER_PROGRAM_THERE, "measurement 1 of another program"),
+    (
+        merging!(15, MergeFault::MixedPeriods),
+        "measurement 15 of other periods",
     ),
 ];
 

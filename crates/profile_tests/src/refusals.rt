@@ -46,10 +46,11 @@ const CASE: Case = Case {
 
 const USAGE: &str = "\
 usage: hpc profile ELF INPUT SCHEDULE PERIOD WORKERS DB | run ELF INPUT SCHEDULE PERIOD MEASURE \
-| prof ELF MEASURE WORKERS DB | struct ELF | view DB top|callers|flat [EVENT] | drill NUMBER WORKERS\n";
+| prof ELF MEASURE WORKERS DB | struct ELF | view DB top|callers|flat [EVENT] | drill NUMBER WORKERS \
+| merge ELF WORKERS DB MEASURE .. | stats DB exclusive|frame|inclusive [EVENT]\n";
 
 /// Words that are no command.
-static INVALID: [(&str, &str); 40] = [
+static INVALID: [(&str, &str); 48] = [
     ("no words", ""),
     ("a view that is none", "view d sideways"),
     ("a run without a file for the measurement", "run p i s 5"),
@@ -94,7 +95,21 @@ static INVALID: [(&str, &str); 40] = [
         "profile p i s retired:1,loads:1,stores:1,taken:1,taken:1 1 d",
     ),
     ("a list after a number", "profile p i s 5,loads:5 1 d"),
-    ("a list for a measurement", "run p i s retired:5 m"),
+    (
+        "events that descend for a measurement",
+        "run p i s taken:5,loads:5 m",
+    ),
+    ("a merge of no measurement", "merge p 1 d"),
+    (
+        "a merge of seventeen measurements",
+        "merge p 1 d m m m m m m m m m m m m m m m m m",
+    ),
+    ("a merge by no worker", "merge p 0 d m"),
+    ("a merge of a file without a name", "merge p 1 d m  m"),
+    ("a merge into a file without a name", "merge p 1  m"),
+    ("summaries of no kind", "stats d"),
+    ("summaries of a kind that is none", "stats d top"),
+    ("summaries of an event that is none", "stats d frame cycles"),
     ("no worker", "profile p i s 5 0 d"),
     ("seventeen workers", "profile p i s 5 17 d"),
     ("a word too many", "profile p i s 5 1 d d"),

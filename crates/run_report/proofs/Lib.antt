@@ -1,5 +1,6 @@
 pub mod HartLines
 pub mod Retired
 pub mod Columns
-pub mod Events
+pub mod FewEvents
 pub mod Counting
+pub mod EventLines

@@ -1,7 +1,7 @@
 -- A run as text, which stands before its table.
 use Rattle.std.specs.Prelude.{ℕ, ◌-◌, ◌*◌, ◌==◌, ◌||◌, if◌then◌else◌}
 use Rattle.std.specs.Prelude.{List, [], ◌∷◌, ◌++◌, length, slice_index, slice_index_or, count_by, codes, decimal}
-use Rattle.std.specs.List.{flat_map}
+use Rattle.std.specs.List.{enumerate_from, flat_map}
 use Rattle.scope_types.specs.declared.event.EventPeriod.{EventPeriod}
 use Rattle.scope_types.specs.Columns.{hart_of_column, place_of_column}
 use Rattle.scope_types.specs.Distinct.{ColumnRaw}
@@ -83,3 +83,18 @@ abbrev pub event_line : EventPeriod → ℕ → List ℕ
 event_line e samples =
     codes "event " ++ event_name e.event ++ codes " period " ++ decimal e.period ++ codes " samples " ++ decimal samples
     ++ codes " total " ++ decimal (e.period * samples) ++ codes "\n"
+
+-- the line of one of these events, which is given with its place among them. There is none where retired is the only
+-- event
+abbrev pub line_of_event : List EventPeriod → List ColumnRaw → ℕ × EventPeriod → List ℕ
+line_of_event events samples numbered =
+    if is_retired_alone events then []
+    else event_line numbered.1 (samples_by_event (length events) samples numbered.0)
+
+-- the lines of all events, in their order
+abbrev pub event_lines : List EventPeriod → List ColumnRaw → List ℕ
+event_lines events samples = flat_map (line_of_event events samples) (enumerate_from 0 events)
+
+-- the lines on a run, and those of its events
+abbrev pub run_and_events : List EventPeriod → ℕ → MachineState → List ColumnRaw → List ℕ
+run_and_events events harts final samples = run_text events harts final samples ++ event_lines events samples

@@ -1,17 +1,18 @@
 //! A run as text.
-ghost use Rattle.std.specs.Prelude.{◌≡◌, ◌<◌, ◌≤◌, ◌^◌, ◌++◌, ◌*◌, List, length, codes, decimal, IfOk, OnOk};
+ghost use Rattle.std.specs.Prelude.{◌≡◌, ◌<◌, ◌≤◌, ◌++◌, ◌*◌, List, length, decimal, IfOk, OnOk};
 ghost use Rattle.scope_types.specs.Distinct.{ColumnRaw, distinct, samples_in};
-ghost use Rattle.scope_types.specs.Events.{AreEvents, event_name};
+ghost use Rattle.scope_types.specs.Events.{AreEvents};
 ghost use Rattle.scope_types.specs.Limits.{most_samples};
-ghost use Rattle.run_report.specs.Report.{cause_text, closed, end_text, event_line, hart_line, hart_lines, run_line};
+ghost use Rattle.run_report.specs.Report.{cause_text, closed, end_text, hart_line, hart_lines, run_and_events, run_line};
 ghost use Rattle.run_report.specs.Report.{run_text, samples_line, total_line};
-ghost use Rattle.run_report.specs.private.Counted.{counted_text, hart_samples, named_line};
+ghost use Rattle.run_report.specs.private.Counted.{counted_text, hart_samples};
 
 use crate::counts::{all_samples, hart_samples};
+use crate::events::{count_of, put_event_lines};
 use prof_bytes::{Memory, Text, put_address, put_decimal, put_text};
 use rv_hart::Cause;
 use rv_run::{HartEnd, Machine};
-use scope_types::{Event, EventPeriod};
+use scope_types::EventPeriod;
 use std::alloc::Global;
 use thread_cct::{Ccts, samples_are_counted};
 
@@ -147,16 +148,6 @@ fn put_hart_lines(
     Ok(())
 }
 
-/// How many events there are.
-#[tactic(auto, using(crate::proofs::Events::few_events))]
-fn count_of(periods: &[EventPeriod]) -> u32
-    requires { AreEvents periods.now }
-    ensures count { result ≡ length periods.now }
-    ensures some { 1 ≤ result }
-{
-    periods.len() as u32
-}
-
 /// The lines on a run: its output, the totals, and a line for each hart.
 fn put_run(
     out: &mut Vec<u8>,
@@ -175,7 +166,7 @@ fn put_run(
     put_hart_lines(out, count_of(periods), harts, ccts, machine)
 }
 
-/// The lines on a run of these events, of which these are the counted samples, and at whose end the machine stands.
+/// The lines on a run of these events, of which these are the counted samples, and at whose end the machine is.
 pub fn run_lines(
     alloc: Global,
     periods: &[EventPeriod],
@@ -196,43 +187,22 @@ pub fn run_lines(
     Ok(Text::from_vec(lines))
 }
 
-// ---- an event
-
-fn name_of(event: Event) -> &'static str
-    ensures { result.now ≡ event_name event }
+/// The lines on a run of these events, of which these are the counted samples, and at whose end the machine is; and
+/// after them the line of each event, unless retired is the only one.
+pub fn run_and_events(
+    alloc: Global,
+    periods: &[EventPeriod],
+    ccts: &Ccts,
+    machine: &Machine<'_>,
+) -> Result<Text, Memory>
+    requires events { AreEvents periods.now }
+    requires columns { length ccts.now ≡ length machine.now.state.harts * length periods.now }
+    ensures { (samples : List ColumnRaw) → ccts.now ≡ distinct (length ccts.now) samples
+        → samples_in ccts.now ≡ length samples
+        → IfOk result (λ text. text
+        ≡ run_and_events periods.now (length machine.now.state.harts) machine.now.state samples) }
 {
-    match event {
-        Event::Retired => "retired",
-        Event::Loads => "loads",
-        Event::Stores => "stores",
-        Event::Taken => "taken",
-    }
-}
-
-fn put_name(out: &mut Vec<u8>, name: &str) -> Result<(), Memory>
-    ensures { OnOk result (out.new.items ≡ out.old.items ++ codes "event " ++ name.now) }
-{
-    put_text(out, "event ")?;
-    put_text(out, name)
-}
-
-/// The line on an event of this name.
-fn put_named(out: &mut Vec<u8>, name: &str, every: u32, samples: u64) -> Result<(), Memory>
-    requires { samples ≤ most_samples }
-    ensures { OnOk result (out.new.items ≡ out.old.items ++ named_line name.now every samples) }
-{
-    put_name(out, name)?;
-    put_count(out, " period ", u64::from(every))?;
-    put_count(out, " samples ", samples)?;
-    put_count(out, " total ", u64::from(every) * samples)?;
-    out.push(b'\n')?;
-    Ok(())
-}
-
-/// The line on an event of which so many samples were taken.
-pub fn put_event_line(out: &mut Vec<u8>, event: EventPeriod, samples: u64) -> Result<(), Memory>
-    requires { samples ≤ most_samples }
-    ensures { OnOk result (out.new.items ≡ out.old.items ++ event_line event samples) }
-{
-    put_named(out, name_of(event.event), event.period, samples)
+    let mut lines = run_lines(alloc, periods, ccts, machine)?.into_vec();
+    put_event_lines(&mut lines, periods, ccts)?;
+    Ok(Text::from_vec(lines))
 }

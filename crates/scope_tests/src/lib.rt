@@ -1,4 +1,5 @@
-//! Tests of the structure of a program, the scopes at its addresses, its listing, and call paths expanded by them.
+//! Tests of the structure of a program, the scopes at its addresses, its listing, call paths
+//! expanded by them, and timelines of traces.
 //!
 //! It has no code of its own, as all crates of tests. The expected values come from addr2line, LLVM's tools and the
 //! definitions. Below lie the readers of debug information, what finds scopes by them, and the programs that tests share.
@@ -12,3 +13,5 @@ mod listing;
 mod scopes;
 #[cfg(test)]
 mod structure;
+#[cfg(test)]
+mod timelines;

@@ -1,6 +1,7 @@
 -- The events of a run that can be sampled, and which lists of them a run may have (HPCToolkit's manual, "Choosing
 -- Sampling Sources": several event sources, each with its own period).
 use Rattle.std.specs.Prelude.{ℕ, ◌<◌, ◌≤◌, ◌==◌, Bool, false, List, [], ◌∷◌, All, length, map, codes}
+use Rattle.std.specs.Prelude.{if◌then◌else◌}
 use Rattle.scope_types.specs.declared.event.Event.{Event}
 use Rattle.scope_types.specs.declared.event.Event.TheVariants.{Retired, Loads, Stores, Taken}
 use Rattle.scope_types.specs.declared.event.EventPeriod.{EventPeriod}
@@ -11,6 +12,10 @@ event_number Retired = 0
 event_number Loads = 1
 event_number Stores = 2
 event_number Taken = 3
+
+-- the event with a number
+abbrev pub event_of_number : ℕ → Event
+event_of_number n = if n == 0 then Retired else if n == 1 then Loads else if n == 2 then Stores else Taken
 
 -- its name
 abbrev pub event_name : Event → List ℕ
@@ -36,6 +41,10 @@ pub record AreEvents (events : List EventPeriod) : Type 0 where
 -- the periods of events, in their order
 abbrev pub periods_of : List EventPeriod → List ℕ
 periods_of events = map (λ e. e.period) events
+
+-- what files say of an event that is sampled: its number and its period
+abbrev pub event_words : EventPeriod → List ℕ
+event_words e = event_number e.event ∷ e.period ∷ []
 
 -- retired instructions and no other event
 abbrev pub retired_every : ℕ → List EventPeriod

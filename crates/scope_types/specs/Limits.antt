@@ -3,7 +3,15 @@ use Rattle.std.specs.Prelude.{ℕ}
 
 -- how many harts a run may have
 abbrev pub most_harts : ℕ
-most_harts = 16
+most_harts = 64
+
+-- how many runs a profile may have
+abbrev pub most_runs : ℕ
+most_runs = 16
+
+-- how many events can be sampled
+abbrev pub most_events : ℕ
+most_events = 4
 
 -- how many samples a profile may have
 abbrev pub most_samples : ℕ

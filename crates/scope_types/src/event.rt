@@ -1,6 +1,6 @@
 //! The events of a run that can be sampled.
 ghost use Rattle.std.specs.Prelude.{◌≡◌};
-ghost use Rattle.scope_types.specs.Events.{event_number, event_name};
+ghost use Rattle.scope_types.specs.Events.{event_name, event_number, event_of_number};
 
 /// What is counted of a run.
 #[derive(Clone, Copy, Debug, PartialEq, Eq)]
@@ -32,6 +32,18 @@ impl Event {
             Event::Loads => 1,
             Event::Stores => 2,
             Event::Taken => 3,
+        }
+    }
+
+    /// The event with a number of 0 to 3; a greater number is taken for 3.
+    pub fn of_number(number: u32) -> Event
+        ensures { result ≡ event_of_number number }
+    {
+        match number {
+            0 => Event::Retired,
+            1 => Event::Loads,
+            2 => Event::Stores,
+            _ => Event::Taken,
         }
     }
 

@@ -1,10 +1,16 @@
 //! The limits of a profile, each in one place.
 ghost use Rattle.std.specs.Prelude.{◌≡◌};
-ghost use Rattle.scope_types.specs.Limits.{most_frames_in_all, most_frames_of_path, most_harts, most_name_bytes};
-ghost use Rattle.scope_types.specs.Limits.{most_samples, most_scopes_in_all, most_workers, stripe_count};
+ghost use Rattle.scope_types.specs.Limits.{most_events, most_frames_in_all, most_frames_of_path, most_harts, most_name_bytes};
+ghost use Rattle.scope_types.specs.Limits.{most_runs, most_samples, most_scopes_in_all, most_workers, stripe_count};
 
 /// The harts of a run.
-pub const MOST_HARTS: usize = 16;
+pub const MOST_HARTS: usize = 64;
+
+/// The runs of a profile.
+pub const MOST_RUNS: usize = 16;
+
+/// The events that can be sampled.
+pub const MOST_EVENTS: usize = 4;
 
 /// The samples of a profile.
 pub const MOST_SAMPLES: u32 = 1_048_576;
@@ -30,6 +36,8 @@ pub const MOST_NAME_BYTES: usize = 4_096;
 /// The code has the limits of the definitions.
 pub fn limits_are_those_of_the_definitions()
     ensures columns { MOST_HARTS ≡ most_harts }
+    ensures runs { MOST_RUNS ≡ most_runs }
+    ensures events { MOST_EVENTS ≡ most_events }
     ensures samples { MOST_SAMPLES ≡ most_samples }
     ensures frames_of_path { MOST_FRAMES_OF_PATH ≡ most_frames_of_path }
     ensures frames_in_all { MOST_FRAMES_IN_ALL ≡ most_frames_in_all }
@@ -41,7 +49,9 @@ pub fn limits_are_those_of_the_definitions()
 
 /// The numbers of the definitions.
 pub fn limit_values()
-    ensures columns { most_harts ≡ 16 }
+    ensures columns { most_harts ≡ 64 }
+    ensures runs { most_runs ≡ 16 }
+    ensures events { most_events ≡ 4 }
     ensures samples { most_samples ≡ 1048576 }
     ensures frames_of_path { most_frames_of_path ≡ 512 }
     ensures frames_in_all { most_frames_in_all ≡ 4194304 }

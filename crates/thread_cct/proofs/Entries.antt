@@ -13,7 +13,7 @@ use Rattle.thread_cct.specs.Adding.{has_path, count_one}
 use Rattle.thread_cct.specs.private.Fields.{counted_of, counted_in, IsPathAt}
 use Rattle.thread_cct.proofs.Putting.{has_entry}
 
-abbrev Entries : Type 0
+abbrev pub Entries : Type 0
 Entries = List (Raw × ℕ)
 
 abbrev count_of : Counted → ℕ
@@ -48,7 +48,7 @@ pub not_found : (raw : Raw) (es : Entries) → is_some (lookup (same_raw raw) es
 not_found raw es none = sym (has_entry raw es) ∙ none
 
 -- keys that are distinct are the same as no other
-apart : (first : Raw) (es : Entries) (i : ℕ) (k : Raw) (v : ℕ) → AllByRecursion (λ y. same_raw first y ≡ false) (keys_of es) → slice_get es i ≡ Some (k, v) → same_raw first k ≡ false
+pub apart : (first : Raw) (es : Entries) (i : ℕ) (k : Raw) (v : ℕ) → AllByRecursion (λ y. same_raw first y ≡ false) (keys_of es) → slice_get es i ≡ Some (k, v) → same_raw first k ≡ false
 apart first [] i k v others at = absurd cc
 apart first (e ∷ es) zero k v others at = let is : e.0 ≡ k = cc in sym (ap (same_raw first) is) ∙ others.0
 apart first (e ∷ es) (suc i) k v others at = apart first es i k v others.1 at

@@ -8,3 +8,5 @@ mod DealtEntries
 mod Located
 pub mod PlanLaws
 mod Mergeable
+pub mod Copying
+pub mod Appended

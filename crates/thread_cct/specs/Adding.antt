@@ -51,3 +51,7 @@ few_frames tables = if nat_lt most_frames_in_all (frames_in tables) then Err too
 -- a counted path put last in its column's
 abbrev pub with_path : List (List Counted) → ℕ → Counted → List (List Counted)
 with_path tables column counted = slice_set tables column (of_column tables column ++ counted ∷ [])
+
+-- a sample of a column that lies behind as many others
+abbrev pub behind_columns : ℕ → ColumnRaw → ColumnRaw
+behind_columns before s = record { column = before + s.column; raw = s.raw }

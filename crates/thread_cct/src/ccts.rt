@@ -1,4 +1,4 @@
-ghost use Rattle.std.specs.Prelude.{◌≡◌, ◌+◌, ◌<◌, ◌∷◌, ◌++◌, [], false, if◌then◌else◌, List, length, slice_get};
+ghost use Rattle.std.specs.Prelude.{◌≡◌, ◌+◌, ◌^◌, ◌<◌, ◌∷◌, ◌++◌, [], false, if◌then◌else◌, List, length, slice_get};
 ghost use Rattle.std.specs.Prelude.{Some, IfOk, OnOk, OnErr, All, ◌≤◌, replicate};
 ghost use Rattle.prof_bytes.specs.Outcome.{Gives};
 ghost use Rattle.scope_types.specs.Distinct.{ColumnRaw, distinct, frames_in, samples_in};
@@ -97,6 +97,17 @@ fn put_last(
     tables[column].put_counted(raw, count)
 }
 
+/// Copies of the paths of several columns, in order.
+fn copies_of(alloc: Global, tables: &[PathTable]) -> Result<Vec<PathTable>, Memory>
+    ensures { IfOk result (λ copies. copies.items ≡ tables.now) }
+{
+    let mut copies = Vec::new(alloc);
+    for table in tables {
+        copies.push(table.copy(alloc)?)?;
+    }
+    Ok(copies)
+}
+
 impl Ccts {
     /// No samples, for a given number of columns.
     #[tactic(auto, using(crate::proofs::Tables::starting_steps, crate::proofs::Putting::all_empty))]
@@ -180,6 +191,28 @@ impl Ccts {
     {
         let frames = self.frames + raw.frames().len() as u64;
         put_last(&mut self.tables, column as usize, raw, count)?;
+        self.frames = frames;
+        Ok(())
+    }
+
+    /// The other's columns follow the own ones, with their paths and counts. `TooManyFrames` comes exactly where the
+    /// distinct paths of both have more than 4,194,304 frames. Nothing is changed then, and nothing where memory runs
+    /// out.
+    pub fn append(&mut self, other: &Ccts) -> Result<(), Fail<TooManyFrames>>
+        requires columns { length self.old + length other.now < 2 ^ 32 }
+        requires few { samples_in self.old + samples_in other.now ≤ most_samples }
+        ensures answer { Gives (λ done. self.new) result (few_frames (self.old ++ other.now)) }
+        ensures err { OnErr result (self.new ≡ self.old) }
+        ensures columns { OnOk result (length self.new ≡ length self.old + length other.now) }
+        ensures samples { OnOk result (samples_in self.new ≡ samples_in self.old + samples_in other.now) }
+        ensures frames { OnOk result (frames_in self.new ≡ frames_in self.old + frames_in other.now) }
+    {
+        let frames = self.frames + other.frames;
+        if frames > u64::from(MOST_FRAMES_IN_ALL) {
+            return Err(Fail::Fault(TooManyFrames));
+        }
+        let mut copies = copies_of(self.alloc, &other.tables)?;
+        self.tables.append(&mut copies)?;
         self.frames = frames;
         Ok(())
     }

@@ -2,9 +2,9 @@
 //! of (HPCToolkit's manual, "Calling Context Tree"); and the plan of their merge.
 //!
 //! It promises that of the samples that were added each column has its distinct raw paths in order of first
-//! sample, each with its count; and that a plan cuts these into chunks of 64, and each chunk, expanded to call
-//! paths, into the pieces of sixteen stripes, so that the pieces have each path once. Below lie `scope_types`,
-//! `prof_bytes` and `indexmap`.
+//! sample, each with its count; that the columns that are appended are those of the other table; and that a plan
+//! cuts these into chunks of 64, and each chunk, expanded to call paths, into the pieces of sixteen stripes, so that
+//! the pieces have each path once. Below lie `scope_types`, `prof_bytes` and `indexmap`.
 //!
 //! A loop that adds the samples of a run one by one keeps, of the samples so far, that `Ccts` is `distinct` of
 //! them and counts as many: `start` gives it of no samples, and `add` (clauses `all` and `samples`) of one more,
@@ -21,7 +21,7 @@ mod table;
 
 pub use ccts::{Ccts, TooManyFrames};
 pub use dealt::Pieces;
-pub use laws::samples_are_counted;
+pub use laws::{appended_samples_are_counted, samples_are_counted};
 pub use merge_plan::{Plan, TooManyScopes};
 pub use plan_laws::{pieces_make_the_plan, plans_can_be_merged, plans_hold_counted_paths};
 pub use scope_types::Counted;

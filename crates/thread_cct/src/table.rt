@@ -1,6 +1,6 @@
 //! The distinct raw paths of one column. A table by hashing finds them.
 ghost use Rattle.std.specs.Prelude.{◌≡◌, ◌<◌, ◌-◌, ◌^◌, ◌++◌, ◌∷◌, [], true, false, if◌then◌else◌, length, slice_get};
-ghost use Rattle.std.specs.Prelude.{sum_by, Some, OnOk, OnErr, MatchOption};
+ghost use Rattle.std.specs.Prelude.{sum_by, Some, IfOk, OnOk, OnErr, MatchOption};
 ghost use Rattle.thread_cct.specs.Adding.{count_one, has_path};
 ghost use Rattle.scope_types.specs.Raw.{same_raw};
 ghost use Rattle.thread_cct.specs.private.Fields.{IsPathAt};
@@ -51,6 +51,22 @@ fn is_same(raw: &RawPath, other: &RawPath) -> bool
         ([frame], [only]) => raw.end() == other.end() && frame == only,
         _ => raw == other,
     }
+}
+
+/// A copy of a table's paths and counts.
+#[tactic(auto, using(crate::proofs::Copying::copying_steps))]
+fn copied_counts(
+    alloc: Global,
+    counts: &IndexMap<RawPath, u32>,
+) -> Result<IndexMap<RawPath, u32>, Memory>
+    ensures { IfOk result (λ copies. copies.entries ≡ counts.now.entries) }
+{
+    let mut copies = IndexMap::new(alloc);
+    for index in 0..counts.len() {
+        let (path, count) = counts.get_index(index).unwrap();
+        copies.insert(path.copy()?, *count)?;
+    }
+    Ok(copies)
 }
 
 impl PathTable {
@@ -122,6 +138,16 @@ impl PathTable {
     {
         self.counts.insert(raw, 1)?;
         Ok(())
+    }
+
+    /// A copy of the paths with their counts.
+    pub fn copy(&self, alloc: Global) -> Result<PathTable, Memory>
+        ensures { IfOk result (λ copy. copy ≡ self.now) }
+    {
+        Ok(PathTable {
+            counts: copied_counts(alloc, &self.counts)?,
+            recent: [0; RECENT],
+        })
     }
 
     /// Whether a path is there.

@@ -2,6 +2,7 @@
 use crate::plan::one_column;
 use measure_file::{MeasureFault, MeasureHead, read_measure, write_measure};
 use prof_bytes::{Fail, Memory};
+use scope_types::limits::MOST_HARTS;
 use std::alloc::Global;
 use std::test::Fail as Failed;
 use thread_cct::{Ccts, TooManyFrames};
@@ -21,13 +22,14 @@ const HEAD: MeasureHead = MeasureHead {
 };
 
 /// What a row changes: bytes at places, and how many bytes of the file there are; and where the fault is.
-static REFUSALS: [(&str, &[(usize, u8)], usize, u64); 16] = [
+static REFUSALS: [(&str, &[(usize, u8)], usize, u64); 17] = [
     ("without the last byte", &[], 91, 88),
     ("with a byte after", &[], 93, 92),
     ("another word at the start", &[(0, 0x49)], 92, 0),
     ("the period 0", &[(16, 0)], 92, 16),
     ("no harts", &[(20, 0)], 92, 20),
-    ("17 harts", &[(20, 17)], 92, 20),
+    ("63 harts more", &[(20, 64)], 92, 92),
+    ("65 harts", &[(20, 65)], 92, 20),
     ("255 harts", &[(20, 0xff)], 92, 20),
     ("one path fewer", &[(24, 3)], 92, 76),
     ("one path more", &[(24, 5)], 92, 92),
@@ -106,7 +108,7 @@ fn wrong_front(alloc: Global) -> Result<Option<usize>, Memory> {
 /// Whether samples are written as the file's bytes.
 fn are_written(alloc: Global, head: &MeasureHead, ccts: &Ccts) -> Result<bool, Memory> {
     let columns = ccts.columns();
-    if head.period == 0 || columns == 0 || columns > 16 {
+    if head.period == 0 || columns == 0 || columns > MOST_HARTS as u32 {
         return Ok(false);
     }
     let text = write_measure(alloc, head, ccts)?;

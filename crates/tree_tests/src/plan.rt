@@ -90,7 +90,7 @@ impl Expand for Innermost {
 }
 
 /// No samples yet.
-fn started(alloc: Global, columns: u32) -> Result<Ccts, Memory>
+pub(crate) fn started(alloc: Global, columns: u32) -> Result<Ccts, Memory>
     ensures columns { IfOk result (λ ccts. length ccts ≡ columns) }
     ensures samples { IfOk result (λ ccts. samples_in ccts ≡ 0) }
 {
@@ -99,7 +99,12 @@ fn started(alloc: Global, columns: u32) -> Result<Ccts, Memory>
 }
 
 /// Adds a sample of one frame.
-fn add(alloc: Global, ccts: &mut Ccts, column: u32, pc: u32) -> Result<(), Fail<TooManyFrames>>
+pub(crate) fn add(
+    alloc: Global,
+    ccts: &mut Ccts,
+    column: u32,
+    pc: u32,
+) -> Result<(), Fail<TooManyFrames>>
     requires column { column < length ccts.old }
     requires few { samples_in ccts.old < 1000 }
     ensures columns { length ccts.new ≡ length ccts.old }

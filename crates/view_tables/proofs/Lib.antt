@@ -9,5 +9,6 @@ pub mod TableRows
 pub mod ViewOrders
 pub mod grouping
 pub mod OwnTables
+pub mod NodeLabels
 pub mod RowSums
 pub mod ViewSums

@@ -288,25 +288,25 @@ module _ (ps : List ColumnPath) (a b : Naming) (same : names_used a ps ≡ names
       long [] = omega arith
       long (x ∷ front) = omega arith
 
-  proc_there : (n : Path) (id : ProcId) → Contains (nodes ps) n → has proc_order id (scope_procs (own_scope n)) ≡ true → has proc_order id (procs_used (nodes ps)) ≡ true
+  pub proc_there : (n : Path) (id : ProcId) → Contains (nodes ps) n → has proc_order id (scope_procs (own_scope n)) ≡ true → has proc_order id (procs_used (nodes ps)) ≡ true
   unfolding procs_used
   proc_there n id c h =
       let t = λ (n : Path). has proc_order id (scope_procs (own_scope n)) in
       has_ascending proc_order_total proc_order_tells id (flat_map (λ n. scope_procs (own_scope n)) (nodes ps)) ∙ list_any-flat_map (eq_by_cmp proc_order id) (λ n. scope_procs (own_scope n)) (nodes ps)
       ∙ list_any_at t (nodes ps) c.0 n c.1 (subst (λ (z : Path). t z ≡ true) (sym c.2) h)
 
-  file_there : (n : Path) (f : FileId) → Contains (nodes ps) n → has file_order f (scope_files (own_scope n)) ≡ true → has file_order f (files_used (nodes ps)) ≡ true
+  pub file_there : (n : Path) (f : FileId) → Contains (nodes ps) n → has file_order f (scope_files (own_scope n)) ≡ true → has file_order f (files_used (nodes ps)) ≡ true
   unfolding files_used
   file_there n f c h =
       let t = λ (n : Path). has file_order f (scope_files (own_scope n)) in
       has_ascending file_order_total file_order_tells f (flat_map (λ n. scope_files (own_scope n)) (nodes ps)) ∙ list_any-flat_map (eq_by_cmp file_order f) (λ n. scope_files (own_scope n)) (nodes ps)
       ∙ list_any_at t (nodes ps) c.0 n c.1 (subst (λ (z : Path). t z ≡ true) (sym c.2) h)
 
-  proc_same : (id : ProcId) → has proc_order id (procs_used (nodes ps)) ≡ true → a.proc_name id ≡ b.proc_name id
+  pub proc_same : (id : ProcId) → has proc_order id (procs_used (nodes ps)) ≡ true → a.proc_name id ≡ b.proc_name id
   proc_same id h =
       ap (λ (p : ProcName). p.name) (same_at proc_order_tells (named_proc a) (named_proc b) (procs_used (nodes ps)) id (ap (λ (names : Names). names.procs) same) h)
 
-  named_same : (f : FileId) → has file_order f (files_used (nodes ps)) ≡ true → a.file_name f.0 f.1 ≡ b.file_name f.0 f.1
+  pub named_same : (f : FileId) → has file_order f (files_used (nodes ps)) ≡ true → a.file_name f.0 f.1 ≡ b.file_name f.0 f.1
   named_same f h =
       ap (λ (x : NamedFile). x.name) (same_at file_order_tells (named_file a) (named_file b) (files_used (nodes ps)) f (ap (λ (names : Names). names.files) same) h)
 

@@ -17,6 +17,7 @@ fn put_few_spaces(out: &mut Vec<u8>, count: usize) -> Result<(), Memory>
     Ok(())
 }
 
+/// Appends a given number of blanks.
 #[tactic(auto, using(crate::proofs::Blanks::blank_steps))]
 pub fn put_spaces(out: &mut Vec<u8>, count: usize) -> Result<(), Memory>
     ensures { OnOk result (out.new.items ≡ out.old.items ++ spaces count) }

@@ -1,11 +1,14 @@
 ghost use Rattle.std.specs.Prelude.{◌≡◌, ℕ, ◌*◌, ◌<◌, ◌≤◌, List, [], length, map, count_by, sum_by, All};
+ghost use Rattle.std.specs.Prelude.{Contains};
 ghost use Rattle.scope_types.specs.CallPaths.{ColumnPath};
 ghost use Rattle.scope_types.specs.Expansion.{FoundAt, call_path};
 ghost use Rattle.scope_types.specs.Raw.{Raw};
-ghost use Rattle.tree_types.specs.Database.{content_of, naming_in};
+ghost use Rattle.tree_types.specs.Database.{content_of, names_used, naming_in};
 ghost use Rattle.tree_types.specs.Naming.{Naming};
-ghost use Rattle.tree_types.specs.Nodes.{nodes, no_parent};
+ghost use Rattle.tree_types.specs.Nodes.{nodes, no_parent, own_scope};
+ghost use Rattle.tree_types.specs.Paths.{Path};
 ghost use Rattle.tree_types.specs.PathsOf.{paths_of};
+ghost use Rattle.tree_types.specs.TopDown.{label};
 ghost use Rattle.view_tables.specs.Callers.{call_chains, callers};
 ghost use Rattle.view_tables.specs.Flat.{flat, frames};
 ghost use Rattle.view_tables.specs.Sums.{HasFrame, exclusive_at, goes_on};
@@ -25,6 +28,12 @@ pub fn tables_are_of_call_paths()
         → All (λ p. 0 < length p.path) ps → All (λ p. p.column < columns) ps
         → flat (content_of period columns naming ps).period (naming_in (content_of period columns naming ps).names)
         (paths_of (content_of period columns naming ps)) ≡ flat period naming ps }
+{}
+
+/// A node's label under the names that a content of its call paths has is that under the names that it was made of.
+pub fn labels_are_of_call_paths()
+    ensures { (naming : Naming) (ps : List ColumnPath) (n : Path) → Contains (nodes ps) n
+        → label (naming_in (names_used naming ps)) (own_scope n) ≡ label naming (own_scope n) }
 {}
 
 /// The exclusive values of the rows right under a chain add up to the period times the number of samples whose

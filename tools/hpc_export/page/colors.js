@@ -48,6 +48,13 @@ function readableColor(hue, saturation, lightness, step) {
   return color;
 }
 
+// Of a comparison: red where a share of the total was added, blue where one was saved, the more the stronger.
+function changeColor(part) {
+  const dark = isDark.matches, strength = Math.min(1, Math.sqrt(Math.abs(part)) * 2), hue = part > 0 ? 8 : 215;
+  return dark ? readableColor(hue, 0.1 + 0.5 * strength, 0.24 + 0.1 * strength, -0.01)
+    : readableColor(hue, 0.15 + 0.75 * strength, 0.93 - 0.13 * strength, 0.01);
+}
+
 function colorOf(key) {
   const cached = colors.get(key);
   if (cached) return cached;

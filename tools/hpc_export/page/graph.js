@@ -18,6 +18,14 @@ class Graph {
     for (let i = this.count - 1; i >= 0; i--) sums[this.above(i)] += sums[i];
   }
 
+  // The same of other values.
+  sumsOf(own) {
+    const sums = new Float64Array(this.count + 1);
+    sums.set(own);
+    for (let i = this.count - 1; i >= 0; i--) sums[this.above(i)] += sums[i];
+    return sums;
+  }
+
   // Siblings by their places, or by cost.
   order(isByCost) {
     const {first, next, count, inclusive} = this;
@@ -69,10 +77,13 @@ function procedureGraph(profile) {
   });
 }
 
-function graphSamples(graph, samples) {
-  if (!graph.nodeOf) return samples.exclusive;
-  const own = new Uint32Array(graph.count);
-  for (let i = 0; i < profile.count; i++) own[graph.nodeOf[i]] += samples.exclusive[i];
+const graphSamples = (graph, samples) => ownSamples(graph, samples.exclusive);
+
+// Exclusive values of the profile's nodes, by the graph's nodes.
+function ownSamples(graph, exclusive) {
+  if (!graph.nodeOf) return exclusive;
+  const own = new exclusive.constructor(graph.count);
+  for (let i = 0; i < profile.count; i++) own[graph.nodeOf[i]] += exclusive[i];
   return own;
 }
 

@@ -5,6 +5,7 @@ const HEIGHT = 24, PART = 500000;
 const TWICE = 500;
 // Widths: of a table that isn't narrow, of a figure's column, and of names where all columns or whole figures are there.
 const MEDIUM = 540, LEAST_FIGURE = 104, WIDE_NAME = 420, LEAST_NAME = 190;
+const IMBALANCE = 112;
 
 class Grid {
   constructor() {
@@ -25,7 +26,8 @@ class Grid {
     this.kind = kind;
     this.samples = samples;
     this.table = TABLES[kind];
-    if (!["scope", ...this.table.columns].includes(this.sort.column)) this.sort = {column: "inclusive", down: true};
+    this.columns = columnsOf(kind);
+    if (!["scope", ...this.columns].includes(this.sort.column)) this.sort = {column: "inclusive", down: true};
     this.rows = this.sorted(this.table.make(samples), this.table.inOrder).map(row => ({...row, level: 0}));
     this.at = 0;
     this.header();
@@ -40,21 +42,23 @@ class Grid {
 
   // The rows that have the least share, in the order that is chosen.
   sorted(rows, isInOrder = false) {
-    const {column, down} = this.sort, value = VALUE[column], sign = down ? -1 : 1;
-    const shown = this.least ? rows.filter(row => row.inclusive >= this.least) : rows;
+    const {column, down} = this.sort, sign = down ? -1 : 1, {period} = view.shown;
+    const weight = row => profile.before ? Math.max(row.inclusive, valueOf(row, "before") / period) : row.inclusive;
+    const shown = this.least ? rows.filter(row => weight(row) >= this.least) : rows;
     if (isInOrder) return shown.sort(inOrder);
     if (column === "scope") return shown.sort((a, b) => -sign * inOrder(a, b));
-    return shown.sort((a, b) => sign * (a[value] - b[value]) || inOrder(a, b));
+    return shown.sort((a, b) => sign * (valueOf(a, column) - valueOf(b, column)) || inOrder(a, b));
   }
 
   header() {
-    const columns = ["scope", ...this.table.columns];
+    const columns = ["scope", ...this.columns];
     this.head.replaceChildren(...columns.map((column, place) => {
       const cell = document.createElement("div"), button = document.createElement("button");
       const sorts = this.sort.column === column;
       cell.setAttribute("role", "columnheader");
       cell.setAttribute("aria-sort", sorts ? (this.sort.down ? "descending" : "ascending") : "none");
-      if (place === 4) cell.className = "more";
+      cell.className = column === "imbalance" ? "most" : place === 4 ? "more" : "";
+      if (column === "imbalance") cell.title = "The greatest over the mean of the harts that have samples here";
       button.type = "button";
       button.textContent = (HEADS[column] || "Scope") + (sorts ? (this.sort.down ? " ▾" : " ▴") : "");
       const spoken = HEADS[VALUE[column]] || "Scope";
@@ -204,9 +208,11 @@ class Grid {
   fit() {
     const {element} = this, width = element.clientWidth;
     const figures = Math.max(LEAST_FIGURE, 9 * figure(this.samples.total).length + 22);
-    const isWide = width - 3 * figures - 90 >= WIDE_NAME;
+    const others = this.columns.includes("imbalance") ? 90 + IMBALANCE : 90;
+    const isWide = width - 3 * figures - others >= WIDE_NAME;
     this.isNarrow = width < MEDIUM;
-    this.isShort = this.isNarrow || width - (isWide ? 3 : 2) * figures - 90 < LEAST_NAME;
+    this.isShort = this.isNarrow || width - (isWide ? 3 : 2) * figures - others < LEAST_NAME;
+    element.classList.toggle("several", others > 90);
     element.classList.toggle("narrow", this.isNarrow);
     element.classList.toggle("medium", !this.isNarrow && !isWide);
     element.style.setProperty("--figure", `${this.isShort ? LEAST_FIGURE : figures}px`);
@@ -235,15 +241,17 @@ class Grid {
     if (row.has) element.setAttribute("aria-expanded", !!row.open);
     element.setAttribute("aria-label", this.spoken(row));
     element.classList.toggle("pointed", view.isPointed(row));
-    const cells = this.table.columns.map((column, k) => this.valueCell(row[VALUE[column]], column, k));
+    const cells = this.columns.map((column, k) => this.valueCell(valueOf(row, column), column, k));
     element.append(this.nameCell(row), ...cells);
     return element;
   }
 
   // A row as it is read aloud: its name, and its figures with what they are.
   spoken(row) {
-    const {total} = this.samples, figures = this.table.columns.map(column => column.endsWith("share")
-      ? `${share(row[VALUE[column]], total)} percent` : `${column} ${figure(row[VALUE[column]])}`);
+    const {total} = this.samples, figures = this.columns.map(column => {
+      const text = textOf(valueOf(row, column), column, total);
+      return column.endsWith("share") ? `${text} percent` : `${column} ${text}`;
+    });
     return [row.name, ...figures].join(", ");
   }
 
@@ -278,13 +286,12 @@ class Grid {
     cell.classList.toggle("zero", !value);
     cell.classList.toggle("share", column.endsWith("share"));
     cell.classList.toggle("more", k === 3);
-    if (column.endsWith("share")) {
-      cell.style.setProperty("--part", `${100 * value / (total || 1)}%`);
-      cell.textContent = share(value, total);
-    } else {
-      cell.textContent = this.isShort ? shortFigure(value) : figure(value);
-      if (this.isShort) cell.title = figure(value);
-    }
+    cell.classList.toggle("most", column === "imbalance");
+    const text = textOf(value, column, total), isShort = this.isShort && !isRatio(column) && column !== "change";
+    if (column.endsWith("share")) cell.style.setProperty("--part", `${100 * value / (total || 1)}%`);
+    cell.textContent = isShort && !column.endsWith("share")
+      ? shortFigure(isCompared(column) ? value / view.shown.period : value) : text;
+    if (this.isShort) cell.title = text;
     return cell;
   }
 

@@ -100,10 +100,14 @@ class Icicle {
     const {graph, look, matched} = this;
     if (node < 0) return {box: mixed(look.soft, look.card, matched ? 0.85 : 0.7), text: look.ink};
     if (matched && matched[node]) return {box: look.match, text: look["match-ink"]};
-    const box = colorOf(node === graph.count ? -1 : graph.colorOf(node));
+    const box = graph.before ? changeColor(this.change(node) / Math.max(graph.before[graph.count], 1))
+      : colorOf(node === graph.count ? -1 : graph.colorOf(node));
     const text = graph.isFaint(node) ? look.soft : look.ink;
     return matched ? {box: mixed(box, look.card, 0.65), text: look.soft} : {box, text};
   }
+
+  // By how many instructions a node costs more than before.
+  change(node) { return this.graph.inclusive[node] * view.shown.period - this.graph.before[node]; }
 
   drawBox(pen, node, left, w, y, letter) {
     const {box, text} = this.lookOf(node), {graph} = this;
@@ -176,7 +180,9 @@ class Icicle {
     const {label, all, share, frame, frameShare} = this.describe(node), detail = document.getElementById("detail");
     const bold = document.createElement("b");
     bold.textContent = label;
-    const alone = node === this.graph.count ? "" : ` · frame ${frame} (${frameShare} %)`;
+    const {before} = this.graph, isAll = node === this.graph.count;
+    const alone = before ? ` · before ${grouped.format(before[node])}, change ${signed(this.change(node))}`
+      : isAll ? "" : ` · frame ${frame} (${frameShare} %)`;
     detail.replaceChildren(bold, `  inclusive ${all} (${share} %)${alone}${view.causesOf(label)}`);
   }
 

@@ -1,5 +1,5 @@
 // The page's state in the fragment of its address, so that a link shows what was seen: event, harts, filters, graph,
-// zoom, the selected node, table, sorting, the selected row, search, least share, the line of a source. What is as at
+// zoom, the selected node, table, sorting, the selected row, search, least share, the line of a source, bars. What is as at
 // the start is left out. Node numbers are those of this export.
 
 class Link {
@@ -19,11 +19,12 @@ class Link {
   }
 
   text() {
-    const {icicle, grid, shown, source, edges} = view, {graph} = icicle, {column, down} = grid.sort;
+    const {icicle, grid, shown, source, edges, bars} = view, {graph} = icicle, {column, down} = grid.sort;
     const node = at => at === graph.count ? undefined : at;
     const words = {
       event: shown.event === profile.event ? undefined : profile.events[shown.event].name,
-      hart: shown.hart === -1 ? undefined : profile.harts[shown.hart],
+      run: shown.run === -1 ? undefined : shown.run,
+      hart: shown.hart === -1 ? undefined : shown.hart,
       filters: shown.filters.map(filterText).join(".") || undefined,
       graph: view.graphKind === "procedure" ? undefined : view.graphKind,
       order: view.isByCost ? "cost" : undefined,
@@ -36,6 +37,7 @@ class Link {
       least: view.percent === profile.minimum ? undefined : view.percent,
       source: !view.isSourceShown ? view.isSourceMoved ? "off" : undefined
         : view.isSourceMoved || source.place !== source.start ? source.place : undefined,
+      bars: bars.isSeveral && bars.element.hidden ? "off" : bars.isByRun ? "runs" : undefined,
       panes: edges.some(edge => edge.isMoved) ? edges.map(edge => Math.round(100 * edge.share)).join(".") : undefined,
     };
     const pairs = Object.entries(words).filter(([, value]) => value !== undefined);
@@ -67,11 +69,14 @@ class Link {
     view.grid.sort = {column: HEADS[column] || column === "scope" ? column : "inclusive", down: down !== "0"};
     view.search = new Search(words.search || "");
     document.getElementById("search").value = view.search.words;
+    view.bars.choose(hasRuns() && words.bars === "runs");
+    view.bars.turn(view.bars.isSeveral && words.bars !== "off");
     const panes = (words.panes || "").split(".").map(Number);
     view.edges.forEach((edge, k) => { if (panes[k]) edge.set(panes[k] / 100); });
-    const hart = profile.harts.findIndex(hart => String(hart) === words.hart);
+    const run = profile.runs.includes(number("run")) ? number("run") : -1;
+    const hart = hartsOf(profile, run).includes(number("hart")) ? number("hart") : -1;
     const event = profile.events.findIndex(({name}) => name === words.event);
-    view.choose({event: event < 0 ? profile.event : event, hart, filters});
+    view.choose({event: event < 0 ? profile.event : event, run, hart, filters});
     this.restorePlaces(words, number);
   }
 

@@ -7,11 +7,12 @@ async function unpacked(id) {
   return new Response(new Blob([packed]).stream().pipeThrough(new DecompressionStream("deflate")));
 }
 
-// The readers of what the exporter writes, by its version. Version 1 has one event.
+// The readers of what the exporter writes, by its version. Version 1 has one event, and versions 1 and 2 have one run.
 const RETIRED = {name: "retired", unit: "retired instructions"};
 const READERS = {
-  1: (names, buffer) => Profile.unpacked({...names, events: [{...RETIRED, period: names.period}], event: 0}, buffer),
-  2: (names, buffer) => Profile.unpacked(names, buffer),
+  1: (names, buffer) => READERS[2]({...names, events: [{...RETIRED, period: names.period}], event: 0}, buffer),
+  2: (names, buffer) => READERS[3]({...names, runs: names.harts.map(() => 0)}, buffer),
+  3: (names, buffer) => Profile.unpacked(names, buffer),
 };
 
 async function main() {

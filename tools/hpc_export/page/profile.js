@@ -6,8 +6,8 @@ const ROOT_NAMES = ["<thread root>", "<partial call paths>"];
 
 class Profile {
   // `names` has the lists and numbers of the export; the columns are parent, operand, lineFile, line and scope. Samples
-  // are hart by hart, and of each hart event by event. `nodeOf` says of a profile that filters made which of its nodes
-  // each node of the whole profile is.
+  // are hart by hart, and of each hart event by event; of each hart `harts` has its number in its run, and `runs` the run.
+  // `nodeOf` says of a profile that filters made which of its nodes each node of the whole profile is.
   constructor(names, columns, allSamples, nodeOf = null) {
     Object.assign(this, names, columns, {names, allSamples, nodeOf});
     const n = this.count = this.scope.length;
@@ -33,7 +33,11 @@ class Profile {
     const operand = column(Int32Array, n), lineFile = column(Int32Array, n), line = column(Uint32Array, n);
     const samples = names.entries.map(length =>
       ({nodes: column(Uint32Array, length), counts: column(Uint32Array, length)}));
-    return new Profile(names, {parent, operand, lineFile, line, scope: new Uint8Array(buffer, at, n)}, samples);
+    // Of a comparison the samples before, event by event.
+    const samplesBefore = names.before && names.before.entries.map(length =>
+      ({nodes: column(Uint32Array, length), counts: column(Uint32Array, length)}));
+    const scope = new Uint8Array(buffer, at, n);
+    return Object.assign(new Profile(names, {parent, operand, lineFile, line, scope}, samples), {samplesBefore});
   }
 
   place(i) {
@@ -57,7 +61,7 @@ class Profile {
     switch (this.scope[i]) {
       case ROOT: return ROOT_NAMES[this.operand[i]];
       case PROC: return this.procedures[this.operand[i]];
-      case INLINE: return `[I] ${this.procedures[this.operand[i]]} called at ${this.place(i)}`;
+      case INLINE: return `[I] ${this.procedures[this.operand[i]]}${this.before ? "" : ` called at ${this.place(i)}`}`;
       case CALL: return `call at ${this.place(i)}`;
       default: return this.place(i);
     }
@@ -66,7 +70,7 @@ class Profile {
   // As it is shown: a call has the name of what it calls.
   shortLabel(i) {
     switch (this.scope[i]) {
-      case INLINE: return `[I] ${this.procedures[this.operand[i]]} at ${this.shortPlace(i)}`;
+      case INLINE: return this.before ? this.label(i) : `[I] ${this.procedures[this.operand[i]]} at ${this.shortPlace(i)}`;
       case CALL: return `call ${this.callees(i)} at ${this.shortPlace(i)}`;
       case STMT: return this.shortPlace(i);
       default: return this.label(i);
@@ -88,13 +92,14 @@ class Profile {
     return i < 0 || this.scope[i] === ROOT ? -1 : this.operand[i];
   }
 
-  // The exclusive samples of an event, and of one hart or of all where it is -1, of the nodes where `isShown` says so.
-  exclusive(event, hart, isShown = null) {
-    const found = new Uint32Array(this.count), {length} = this.events;
-    this.allSamples.forEach(({nodes, counts}, k) => {
-      if (k % length !== event || hart !== -1 && hart !== Math.floor(k / length)) return;
+  // The samples of a hart and an event, by their places in the lists.
+  plane(hart, event) { return this.allSamples[hart * this.events.length + event]; }
+
+  // The exclusive samples of several planes, of the nodes where `isShown` says so.
+  exclusive(planes, isShown = null) {
+    const found = new Uint32Array(this.count);
+    for (const {nodes, counts} of planes)
       for (let k = 0; k < nodes.length; k++) if (!isShown || isShown[nodes[k]]) found[nodes[k]] += counts[k];
-    });
     return found;
   }
 
@@ -117,7 +122,7 @@ class Profile {
       inclusive[p] += inclusive[i];
       if (this.scope[i] !== PROC) frame[p] += frame[i];
     }
-    return {exclusive, frame, inclusive, total};
+    return {exclusive, frame, inclusive, total, any: inclusive};
   }
 }
 

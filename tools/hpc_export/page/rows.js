@@ -1,6 +1,6 @@
 // The rows of the tables. A row has a name as the printed tables have it, what is shown of it, inclusive and exclusive
-// samples, the node or the procedure that it is of, and makes the rows below it when asked. `order` is its place among
-// siblings whose cost is alike, and its name in links.
+// samples, the nodes that these are of, the node or the procedure that it is of, and makes the rows below it when asked.
+// `order` is its place among siblings whose cost is alike, and its name in links. `any` says which nodes have rows.
 
 // The samples that lie below any of these nodes, which ascend: each once.
 function covered(nodes, inclusive) {
@@ -21,38 +21,40 @@ function groupedBy(nodes, key) {
   return groups;
 }
 
-function topDown({exclusive, frame, inclusive}) {
+function topDown({exclusive, frame, inclusive, any}) {
   const row = node => ({
     name: profile.label(node), shown: profile.shortLabel(node), node, order: node, isPlace: profile.scope[node] >= CALL,
+    nodes: [node],
     procedure: profile.procedureOf(node), site: node,
     inclusive: inclusive[node], exclusive: exclusive[node], frame: frame[node],
     has: profile.scope[node] !== STMT && profile.end[node] > node + 1, make: () => below(node + 1, profile.end[node]),
   });
   const below = (from, end) => {
     const rows = [];
-    for (let node = from; node < end; node = profile.end[node]) if (inclusive[node]) rows.push(row(node));
+    for (let node = from; node < end; node = profile.end[node]) if (any[node]) rows.push(row(node));
     return rows;
   };
   return below(0, profile.count);
 }
 
 // All procedures with samples, each with its nodes.
-function procedureGroups({inclusive}) {
+function procedureGroups({any}) {
   const {scope, operand, count} = profile, nodes = [];
-  for (let i = 0; i < count; i++) if (scope[i] === PROC && inclusive[i]) nodes.push(i);
+  for (let i = 0; i < count; i++) if (scope[i] === PROC && any[i]) nodes.push(i);
   return groupedBy(nodes, node => operand[node]);
 }
 
 // What a procedure's row has: its nodes are where it is called, or called from.
 const procedureRow = (of, nodes, inclusive, own) => ({
-  name: profile.procedures[of], procedure: of, order: of, node: nodes[0], site: nodes[0],
+  name: profile.procedures[of], procedure: of, order: of, node: nodes[0], nodes, site: nodes[0],
   inclusive: covered(nodes, inclusive), exclusive: own,
 });
 
 const caller = node => profile.procNode[profile.parent[node]];
 
 // Who called: `inner` are the nodes of a chain's first procedure, `outer` for each the node of its last.
-function callerRows(inner, outer, {frame, inclusive}) {
+function callerRows(inner, outer, samples) {
+  const {frame, inclusive, any} = samples;
   const groups = new Map();
   inner.forEach((node, k) => {
     const found = caller(outer[k]);
@@ -65,8 +67,8 @@ function callerRows(inner, outer, {frame, inclusive}) {
   return [...groups].map(([of, [nodes, ends]]) => ({
     ...procedureRow(of, nodes, inclusive, sumOf(nodes, frame)), name: "<- " + profile.procedures[of], node: ends[0],
     site: ends[0], has: ends.some(node => caller(node) >= 0),
-    make: () => callerRows(nodes, ends, {frame, inclusive}),
-  })).filter(row => row.inclusive);
+    make: () => callerRows(nodes, ends, samples),
+  })).filter(row => row.nodes.some(node => any[node]));
 }
 
 function callers(samples) {
@@ -77,29 +79,29 @@ function callers(samples) {
 }
 
 // The nodes that these nodes of a procedure call, in their order: one may lie below another.
-function called(nodes, inclusive) {
+function called(nodes, any) {
   const found = [], {scope, end} = profile;
   for (const node of nodes)
     for (let below = node + 1; below < end[node];) {
       const isCalled = scope[below] === PROC;
-      if (isCalled && inclusive[below]) found.push(below);
+      if (isCalled && any[below]) found.push(below);
       below = isCalled ? end[below] : below + 1;
     }
   return found.sort((a, b) => a - b);
 }
 
 function calleeRows(nodes, samples) {
-  const groups = groupedBy(called(nodes, samples.inclusive), node => profile.operand[node]);
+  const groups = groupedBy(called(nodes, samples.any), node => profile.operand[node]);
   return [...groups].map(([of, below]) => ({
     ...procedureRow(of, below, samples.inclusive, sumOf(below, samples.frame)), name: "-> " + profile.procedures[of],
-    has: called(below, samples.inclusive).length > 0, make: () => calleeRows(below, samples),
+    has: called(below, samples.any).length > 0, make: () => calleeRows(below, samples),
   }));
 }
 
 function callees(samples) {
   return [...procedureGroups(samples)].map(([of, nodes]) => ({
     ...procedureRow(of, nodes, samples.inclusive, sumOf(nodes, samples.frame)),
-    has: called(nodes, samples.inclusive).length > 0, make: () => calleeRows(nodes, samples),
+    has: called(nodes, samples.any).length > 0, make: () => calleeRows(nodes, samples),
   }));
 }
 
@@ -107,9 +109,9 @@ function callees(samples) {
 function sandwich(samples, of) {
   const nodes = procedureGroups(samples).get(of);
   if (!nodes) return [];
-  const {inclusive, frame} = samples, inner = nodes.filter(node => caller(node) >= 0), below = called(nodes, inclusive);
+  const {inclusive, frame, any} = samples, inner = nodes.filter(node => caller(node) >= 0), below = called(nodes, any);
   const part = (name, order, nodes, own, make) => ({
-    name, order, procedure: of, isPlace: true, inclusive: covered(nodes, inclusive), exclusive: own,
+    name, order, procedure: of, isPlace: true, inclusive: covered(nodes, inclusive), exclusive: own, nodes,
     has: nodes.length > 0, make,
   });
   return [
@@ -128,7 +130,8 @@ function flat({exclusive, inclusive}) {
   const nodes = [];
   for (let i = 0; i < profile.count; i++) if (scope[i] >= CALL && inclusive[i]) nodes.push(i);
   const split = (nodes, key, row) => [...groupedBy(nodes, key).values()].map(group => ({
-    ...row(group[0], group), site: group[0], inclusive: covered(group, inclusive), exclusive: sumOf(group, exclusive),
+    ...row(group[0], group), site: group[0], nodes: group,
+    inclusive: covered(group, inclusive), exclusive: sumOf(group, exclusive),
   }));
   const procedureAt = node => procNode[node] < 0 ? -1 : operand[procNode[node]];
   const lines = group => split(group, node => lineFile[node] < 0 ? -1 - line[node] : line[node], node => ({

@@ -1,5 +1,5 @@
-// Which values are shown: those of one event and of one hart or of all, of the call paths that the filters leave. All
-// tables, the graph and the sources ask here. A filter is {what: "focus" or "hide", kind: "procedure" or "file", of: its
+// Which values are shown: those of one event, of one run or of all, and of one hart of these or of all, of the call paths
+// that the filters leave. All tables, the graph and the sources ask here. A filter is {what: "focus" or "hide", kind: "procedure" or "file", of: its
 // place in the list}.
 //
 // Focus counts the samples alone whose call path has the procedure, or a frame in the file. Hide takes the procedure's
@@ -7,29 +7,50 @@
 
 class Shown {
   constructor(base) {
-    Object.assign(this, {base, event: base.event, hart: -1, filters: []});
+    Object.assign(this, {base, event: base.event, run: -1, hart: -1, filters: []});
     this.choose();
   }
 
   // What is shown of it from now on. Gives the profile, whose nodes filters may have made anew, and its samples.
-  choose({event = this.event, hart = this.hart, filters = this.filters} = {}) {
+  choose({event = this.event, run = this.run, hart = this.hart, filters = this.filters} = {}) {
     const hidden = list => list.filter(filter => filter.what === "hide");
     const text = list => hidden(list).map(filterText).join();
     if (!this.profile || text(filters) !== text(this.filters)) this.profile = withoutHidden(this.base, hidden(filters));
-    Object.assign(this, {event, hart, filters});
+    const {base, profile} = this, numbers = hartsOf(base, run);
+    Object.assign(this, {event, run, hart: numbers.includes(hart) ? hart : -1, filters, found: null});
     const focused = filters.filter(filter => filter.what === "focus");
-    const exclusive = this.base.exclusive(event, hart, focused.length ? inFocus(this.base, focused) : null);
-    this.samples = this.profile.samplesOf(this.profile.moved(exclusive));
+    this.focused = focused.length ? inFocus(base, focused) : null;
+    this.chosen = [...base.harts.keys()].filter(k =>
+      (run === -1 || base.runs[k] === run) && (this.hart === -1 || base.harts[k] === this.hart));
+    const planes = this.chosen.map(k => base.plane(k, event));
+    this.samples = profile.samplesOf(profile.moved(base.exclusive(planes, this.focused)));
+    if (base.samplesBefore) this.compare();
     return this;
   }
 
+  // The values before, in the event's instructions, and the nodes that have samples on one of both sides.
+  compare() {
+    const {base, profile, samples, event} = this, period = base.before.periods[event];
+    const before = profile.samplesOf(profile.moved(base.exclusive([base.samplesBefore[event]], this.focused)));
+    samples.before = Float64Array.from(before.inclusive, count => count * period);
+    samples.exclusiveBefore = Float64Array.from(before.exclusive, count => count * period);
+    samples.any = samples.inclusive.map((count, node) => count + before.inclusive[node]);
+  }
+
   // How many harts are shown.
-  get harts() { return this.hart === -1 ? this.base.harts.length : 1; }
+  get harts() { return this.chosen.length; }
+
+  // How the samples of all harts are spread, found when it is first asked for.
+  get spreads() { return this.found = this.found || new Spreads(this); }
 
   // For how many of the event's instructions a sample stands, and what these are called.
   get period() { return this.base.events[this.event].period; }
   get unit() { return this.base.events[this.event].unit; }
 }
+
+// The numbers of the harts of a run, or of all runs where it is -1.
+const hartsOf = ({harts, runs}, run) =>
+  [...new Set(harts.filter((_, k) => run === -1 || runs[k] === run))].sort((a, b) => a - b);
 
 // A filter as a word of links, and the filter of a word, if it is one.
 const filterText = ({what, kind, of}) => `${what[0]}${kind[0]}${of}`;

@@ -22,14 +22,19 @@ class View {
     this.grid = new Grid();
     this.source = new Source(texts);
     this.filters = new Filters();
+    this.bars = new Bars();
     const edge = (...words) => new Edge(...words, () => this.moved());
     this.edges = [edge("edge", "--graph", "y"), edge("side-edge", "--table", "x")];
     this.procedure = base.operand[base.scope.indexOf(PROC)] || 0;
     this.link = new Link();
-    const {harts} = base, all = harts.length > 1 ? `all (${harts.length})` : "all";
+    const runs = [...new Set(base.runs)];
     chooser("event", base.events.map(({unit}, k) => [k, unit]), base.event, event => this.setEvent(Number(event)));
     document.getElementById("event-field").hidden = base.events.length === 1;
-    chooser("hart", [[-1, all], ...harts.map((hart, h) => [h, hart])], -1, hart => this.setHart(Number(hart)));
+    chooser("run", [[-1, `all (${runs.length})`], ...runs.map(run => [run, run])], -1, run => this.setRun(Number(run)));
+    document.getElementById("run-field").hidden = runs.length === 1;
+    this.offerHarts();
+    // Of a comparison there are sums alone, without harts and places.
+    for (const id of ["hart-field", "tab-flat", "sources"]) document.getElementById(id).hidden = !!base.before;
     for (const kind of Object.keys(GRAPHS))
       document.getElementById(`by-${kind}`).onclick = () => this.setGraph(kind);
     document.getElementById("by-cost").onclick = () => this.setOrder(!this.isByCost);
@@ -38,6 +43,14 @@ class View {
     this.bindTables();
     isDark.addEventListener("change", () => { colors.clear(); this.icicle.draw(); });
     this.setSource(Object.keys(texts).length > 0 && innerWidth >= 1000, false);
+  }
+
+  // The harts to choose: those of the run that is shown, or of all.
+  offerHarts() {
+    const {base, run, hart} = this.shown, numbers = hartsOf(base, run);
+    this.offered = run;
+    const all = numbers.length > 1 ? `all (${numbers.length})` : "all";
+    chooser("hart", [[-1, all], ...numbers.map(number => [number, number])], hart, word => this.setHart(Number(word)));
   }
 
   bindSearch(field) {
@@ -80,7 +93,7 @@ class View {
         document.getElementById(`tab-${to}`).focus();
       };
     });
-    const {grid} = this, text = separator => written(grid.rows, grid.table.columns, grid.samples.total, separator);
+    const {grid} = this, text = separator => written(grid.rows, grid.columns, grid.samples.total, separator);
     document.getElementById("hot").onclick = () => grid.hotPath(Math.max(grid.at, 0));
     document.getElementById("fold").onclick = () => grid.foldAll();
     document.getElementById("sources").onclick = () => this.setSource(!this.isSourceShown);
@@ -107,6 +120,8 @@ class View {
     if (profile !== before) this.graphs = {};
     this.samples = this.shown.samples;
     document.getElementById("event").value = this.shown.event;
+    document.getElementById("run").value = this.shown.run;
+    if (this.offered !== this.shown.run) this.offerHarts();
     document.getElementById("hart").value = this.shown.hart;
     this.tellFacts();
     this.setLeast(this.percent, false);
@@ -118,14 +133,22 @@ class View {
   }
 
   tellFacts() {
-    const {total} = this.samples, {harts} = this.shown, facts = document.getElementById("facts");
-    const {unit, period} = this.shown;
+    const {total} = this.samples, {base, harts, chosen} = this.shown, facts = document.getElementById("facts");
+    const {unit, period} = this.shown, runs = new Set(chosen.map(k => base.runs[k])).size;
+    const where = (harts === 1 ? "1 hart" : `${harts} harts`) + (runs === 1 ? "" : ` of ${runs} runs`);
     facts.innerHTML = `<b></b> ${unit} · <b></b> samples, one in <b></b> · <b></b>`;
-    [figure(total), grouped.format(total), grouped.format(period), harts === 1 ? "1 hart" : `${harts} harts`]
+    [figure(total), grouped.format(total), grouped.format(period), base.before ? this.compared() : where]
       .forEach((text, k) => { facts.querySelectorAll("b")[k].textContent = text; });
     const causes = document.getElementById("causes");
     causes.hidden = !profile.partial.length;
     causes.textContent = this.causes();
+  }
+
+  // What a comparison is with, and how the total changed.
+  compared() {
+    const {base, period} = this.shown, before = this.samples.exclusiveBefore.reduce((sum, value) => sum + value, 0);
+    const change = signed(this.samples.total * period - before);
+    return `before (${base.before.title}) ${grouped.format(before)}, change ${change}`;
   }
 
   // Why call paths are partial, where the export was given a measurement.
@@ -136,6 +159,7 @@ class View {
   causesOf(label) { return label === ROOT_NAMES[1] && profile.partial.length ? ` · ${this.causes()}` : ""; }
 
   setEvent(event) { this.choose({event}); this.changed(); }
+  setRun(run) { this.choose({run}); this.changed(); }
   setHart(hart) { this.choose({hart}); this.changed(); }
 
   // The graph begins at all samples then, since its nodes are others.
@@ -147,6 +171,7 @@ class View {
     if (graph.samples === this.samples) return graph;
     graph.samples = this.samples;
     graph.fill(graphSamples(graph, this.samples));
+    graph.before = this.samples.before ? graph.sumsOf(ownSamples(graph, this.samples.exclusiveBefore)) : null;
     graph.frame = graphFrames(graph, this.samples);
     return graph;
   }
@@ -319,7 +344,12 @@ class View {
     this.icicle.select(node, {leads: false});
   }
 
-  changed() { if (this.isReady) this.link.write(); }
+  // The bars follow once all has changed.
+  changed() {
+    if (!this.isChanged) queueMicrotask(() => { this.isChanged = false; this.bars.show(); });
+    this.isChanged = true;
+    if (this.isReady) this.link.write();
+  }
 }
 
 // The slider has fine steps where shares are small: its square is the share, 0 to 25 %.

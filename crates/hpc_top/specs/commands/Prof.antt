@@ -1,14 +1,12 @@
--- `prof` as a function of its files: the database and the table of a measurement, whose event is retired, or the first
--- refusal.
-use Rattle.std.specs.Prelude.{ℕ, ◌==◌, ◌&&◌, List, [], ◌∷◌, length, Result, Ok, Err, if◌then◌else◌}
+-- `prof` as a function of its files: the database and the tables of a measurement, or the first refusal.
+use Rattle.std.specs.Prelude.{ℕ, ◌==◌, ◌&&◌, Bool, List, [], ◌∷◌, length, Result, Ok, Err, if◌then◌else◌}
 use Rattle.prof_bytes.specs.Outcome.{◌>>=◌}
 use Rattle.elf_image.specs.Image.{ProgramImage}
-use Rattle.measure_file.specs.declared.head.MeasureHead.{MeasureHead}
-use Rattle.measure_file.specs.Reading.{measurement_in}
+use Rattle.measure_file.specs.declared.head.EventHead.{EventHead}
+use Rattle.measure_file.specs.Reading.{event_measurement_in}
 use Rattle.scope_types.specs.declared.event.EventPeriod.{EventPeriod}
 use Rattle.scope_types.specs.declared.frame.Counted.{Counted}
 use Rattle.scope_types.specs.Distinct.{each_sample}
-use Rattle.scope_types.specs.Events.{retired_every}
 use Rattle.command_line.specs.declared.status.InputFault.{InputFault}
 use Rattle.command_line.specs.declared.status.InputFault.TheVariants.{Measurement, WrongProgram}
 use Rattle.hpc_top.specs.Attribution.{attributed, attribution_of}
@@ -18,21 +16,26 @@ use Rattle.hpc_top.specs.Program.{program}
 use Rattle.hpc_top.specs.Scopes.{program_scopes}
 
 -- the measurement, or the first fault of its file
-abbrev pub measurement : List ℕ → Result (MeasureHead × List (List Counted)) InputFault
-measurement bytes = faulted (λ fault. Measurement fault.offset) (measurement_in bytes)
+abbrev pub measurement : List ℕ → Result (EventHead × List (List Counted)) InputFault
+measurement bytes = faulted (λ fault. Measurement fault.offset) (event_measurement_in bytes)
 
--- the measurement is one of this program: the length of its file and its entry are the same
-abbrev pub of_program : ProgramImage → MeasureHead → Result MeasureHead InputFault
+-- whether a measurement is one of this program: the length of its file and its entry are the same
+abbrev pub is_of_program : ProgramImage → EventHead → Bool
+is_of_program image head = head.length == length image.file && head.entry == image.entry
+
+-- the measurement is one of this program
+abbrev pub of_program : ProgramImage → EventHead → Result EventHead InputFault
 of_program image head =
-    if head.length == length image.file && head.entry == image.entry then Ok head
+    if is_of_program image head then Ok head
     else Err (WrongProgram head.length head.entry (length image.file) image.entry)
 
--- the product of a program and the samples of these events that a measurement counts, each raw path as often as it is
--- counted; or the first refusal of the program's debug information
-abbrev pub attributed_code : ProgramImage → List EventPeriod → ℕ → List (List Counted) → Result Product InputFault
-attributed_code image events harts tables = do
+-- the product of a program and the samples that measurements count, each raw path as often as it is counted, where
+-- these are the events and the harts of each run, and the columns of all runs come one after another; or the first
+-- refusal of the program's debug information
+abbrev pub attributed_code : ProgramImage → List EventPeriod → List ℕ → List (List Counted) → Result Product InputFault
+attributed_code image events runs tables = do
   scopes ← program_scopes image
-  a ← attributed scopes events harts (each_sample tables)
+  a ← attributed scopes events runs (each_sample tables)
   Ok (attribution_of a)
 
 -- the product of a program and a measurement, or the first of their refusals
@@ -41,7 +44,7 @@ prof_product elf bytes = do
   (head, tables) ← measurement bytes
   image ← program elf
   head ← of_program image head
-  attributed_code image (retired_every head.period) (length tables) tables
+  attributed_code image head.events (head.harts ∷ []) tables
 
 -- the same of the contents of the command's files
 abbrev pub prof_makes : List (List ℕ) → Result Product InputFault

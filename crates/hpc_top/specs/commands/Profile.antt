@@ -24,7 +24,7 @@ pub record Profiled : Type 0 where
 -- a run that was measured, unless its samples have too many scopes
 abbrev pub profiled : ProgramScopes → Measured → Result Profiled InputFault
 profiled scopes m = do
-  a ← attributed scopes m.events m.harts m.samples
+  a ← attributed scopes m.events (m.harts ∷ []) m.samples
   Ok (record { measured = m; attributed = a })
 
 -- the run of a program whose call frame information and debug information were read

@@ -1,38 +1,46 @@
 -- `run` as a function of its files: the measurement that is stored, and the lines that are put, or the first refusal.
-use Rattle.std.specs.Prelude.{ℕ, List, [], ◌∷◌, length, Result, Ok}
+use Rattle.std.specs.Prelude.{ℕ, List, [], ◌∷◌, ◌++◌, length, Result, Ok}
 use Rattle.prof_bytes.specs.Outcome.{◌>>=◌}
 use Rattle.elf_image.specs.Image.{ProgramImage}
-use Rattle.measure_file.specs.declared.head.MeasureHead.{MeasureHead}
-use Rattle.measure_file.specs.Spelling.{measurement_spelling}
+use Rattle.measure_file.specs.declared.head.EventHead.{EventHead}
+use Rattle.measure_file.specs.Spelling.{event_measurement_spelling}
+use Rattle.run_report.specs.Report.{event_lines}
+use Rattle.scope_types.specs.declared.event.EventPeriod.{EventPeriod}
+use Rattle.scope_types.specs.declared.frame.Counted.{Counted}
 use Rattle.scope_types.specs.Distinct.{distinct}
-use Rattle.scope_types.specs.Events.{retired_every}
 use Rattle.command_line.specs.declared.status.InputFault.{InputFault}
 use Rattle.hpc_top.specs.Measured.{Measured, lines_of, measured}
 use Rattle.hpc_top.specs.Product.{Product, no_product}
 use Rattle.hpc_top.specs.Program.{scheduled, program, frame_information}
+use Rattle.hpc_top.specs.Samples.{run_columns}
 
--- which program is measured, and how
-abbrev pub head_of : ProgramImage → ℕ → MeasureHead
-head_of image period = record { length = length image.file; entry = image.entry; period = period }
+-- which program is measured, on how many harts, and which events are sampled
+abbrev pub head_of : ProgramImage → Measured → EventHead
+head_of image m =
+    record { length = length image.file; entry = image.entry; harts = m.harts; events = m.events }
 
--- the measurement has the distinct raw paths of the samples, and the text is that of the run
-abbrev pub measurement_of : ProgramImage → ℕ → Measured → Product
-measurement_of image period m = record {
-  stored = measurement_spelling (head_of image period) (distinct m.harts m.samples);
-  text = lines_of m;
+-- the distinct raw paths of the samples, by the columns of the run
+abbrev pub counted_in : Measured → List (List Counted)
+counted_in m = distinct (run_columns m.events m.harts) m.samples
+
+-- the measurement has the distinct raw paths of the samples. The text is the report without its tables: the lines on
+-- the run, and the line of each event, unless retired is the only one
+abbrev pub measurement_of : ProgramImage → Measured → Product
+measurement_of image m = record {
+  stored = event_measurement_spelling (head_of image m) (counted_in m);
+  text = lines_of m ++ event_lines m.events m.samples;
 }
 
--- the product of a program, an input and a schedule, of which retired instructions are sampled, or the first of their
--- refusals
-unfoldable pub run_product : List ℕ → List ℕ → List ℕ → ℕ → Result Product InputFault
-run_product elf input schedule period = do
+-- the product of a program, an input and a schedule, of which these events are sampled, or the first of their refusals
+unfoldable pub run_product : List ℕ → List ℕ → List ℕ → List EventPeriod → Result Product InputFault
+run_product elf input schedule events = do
   schedule ← scheduled schedule
   image ← program elf
   described ← frame_information image
-  m ← measured image described schedule input (retired_every period)
-  Ok (measurement_of image period m)
+  m ← measured image described schedule input events
+  Ok (measurement_of image m)
 
 -- the same of the contents of the command's files
-abbrev pub run_makes : ℕ → List (List ℕ) → Result Product InputFault
-run_makes period (elf ∷ input ∷ schedule ∷ []) = run_product elf input schedule period
-run_makes period texts = Ok no_product
+abbrev pub run_makes : List EventPeriod → List (List ℕ) → Result Product InputFault
+run_makes events (elf ∷ input ∷ schedule ∷ []) = run_product elf input schedule events
+run_makes events texts = Ok no_product

@@ -26,11 +26,11 @@ use Rattle.hpc_top.specs.Product.{Product, no_product, only_text}
 
 -- ---- the tables
 
--- how many callers stand above a procedure in a chain of the callers table, at most
+-- how many callers are above a procedure in a chain of the callers table, at most
 abbrev pub most_callers : ℕ
 most_callers = 8
 
--- a table of call paths, by the period, the number of harts and the names
+-- a table of call paths, by the period, the number of columns, which are the harts of all runs, and the names
 abbrev pub table_of_paths : ViewTable → ℕ → ℕ → Naming → List ColumnPath → List ℕ
 table_of_paths Top period harts naming paths = top_down period harts naming paths
 table_of_paths Callers period harts naming paths = callers period naming most_callers paths

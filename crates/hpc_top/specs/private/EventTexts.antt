@@ -1,12 +1,11 @@
 -- The tables of a content's events, as they are put.
 use Rattle.std.specs.Prelude.{List, ◌++◌, ℕ, map}
 use Rattle.std.specs.List.{enumerate_from, flat_map}
-use Rattle.run_report.specs.Report.{event_line, samples_by_event}
+use Rattle.run_report.specs.Report.{event_line, line_of_event, samples_by_event}
 use Rattle.scope_types.specs.declared.event.EventPeriod.{EventPeriod}
 use Rattle.scope_types.specs.Distinct.{ColumnRaw}
 use Rattle.tree_types.specs.declared.content.EventContent.{EventContent}
 use Rattle.tree_types.specs.OfContent.{content_of_event, content_table}
-use Rattle.hpc_top.specs.Attribution.{line_of_event}
 
 -- the line of an event, of which so many are sampled; it is given with its place
 abbrev pub counted_line : ℕ → List ColumnRaw → ℕ × EventPeriod → List ℕ

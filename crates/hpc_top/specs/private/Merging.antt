@@ -1,5 +1,6 @@
 -- Counted samples as they are planned and merged.
-use Rattle.std.specs.Prelude.{◌≡◌, ℕ, IsTrue, List, slice_get, Some, Result, Ok, Err, if◌then◌else◌, nat_lt}
+use Rattle.std.specs.Prelude.{◌≡◌, ◌<◌, ◌≤◌, ℕ, IsTrue, List, All, length, slice_get, Some}
+use Rattle.std.specs.Prelude.{Result, Ok, Err, if◌then◌else◌, nat_lt}
 use Rattle.prof_bytes.specs.declared.fail.Fail.{Fail}
 use Rattle.prof_bytes.specs.Outcome.{FailsBy}
 use Rattle.scope_types.specs.declared.event.EventPeriod.{EventPeriod}
@@ -8,7 +9,7 @@ use Rattle.scope_types.specs.declared.scope.Scope.{Scope}
 use Rattle.scope_types.specs.Alike.{Alike}
 use Rattle.scope_types.specs.CallPaths.{ColumnPath}
 use Rattle.scope_types.specs.Distinct.{scopes_in}
-use Rattle.scope_types.specs.Limits.{most_scopes_in_all}
+use Rattle.scope_types.specs.Limits.{most_harts, most_runs, most_scopes_in_all}
 use Rattle.scope_types.specs.Raw.{Raw}
 use Rattle.stripe_table.specs.Ends.{named_paths}
 use Rattle.thread_cct.specs.Plan.{Planned, plan_of}
@@ -20,6 +21,12 @@ use Rattle.command_line.specs.declared.status.InputFault.{InputFault}
 use Rattle.command_line.specs.declared.status.InputFault.TheVariants.{TooManyScopes}
 use Rattle.hpc_top.specs.Attribution.{Attributed, call_paths_of, event_content, table_of_event}
 use Rattle.hpc_top.specs.Merged.{Merging, sample_plan}
+
+-- the harts of each run, as a profile may have them: 1 to 16 runs, each with 1 to 64 harts
+pub record AreRuns (runs : List ℕ) : Type 0 where
+  pub some : 1 ≤ length runs
+  pub few : length runs ≤ most_runs
+  pub harts : All (λ h. (0 < h) × (h ≤ most_harts)) runs
 
 -- the plan of counted samples, unless their call paths have too many scopes
 abbrev pub few_planned : (Raw → List Scope) → List (List Counted) → Result Planned InputFault

@@ -1,7 +1,8 @@
 //! `view`: a table of an event of a database.
-ghost use Rattle.std.specs.Prelude.{◌≡◌, ◌<◌, ◌==◌, IfOk, IfSome, length, position};
+ghost use Rattle.std.specs.Prelude.{◌≡◌, ◌<◌, ◌≤◌, ◌==◌, IfOk, IfSome, length, position};
 ghost use Rattle.prof_bytes.specs.Outcome.{Gives};
 ghost use Rattle.scope_types.specs.Events.{AreEvents, event_number};
+ghost use Rattle.scope_types.specs.Limits.{most_runs};
 ghost use Rattle.tree_types.specs.OfContent.{IsEventProfile, IsProfile, content_of_event};
 ghost use Rattle.hpc_top.specs.commands.View.{database, place_shown, table_of, view_makes, view_product};
 
@@ -16,15 +17,15 @@ use std::alloc::Global;
 use tree_types::{Content, EventContent};
 use view_tables::{callers, flat, top_down_length};
 
-/// How many callers stand above a procedure in a chain of the callers table, at most.
+/// How many callers are above a procedure in a chain of the callers table, at most.
 const MOST_CALLERS: u32 = 8;
 
 /// The content of a database, or the first fault of its file.
 #[tactic(auto, using(crate::proofs::Faults::input_steps))]
-fn content_in(alloc: Global, bytes: &[u8]) -> Result<EventContent, Fail<InputFault>>
+pub(super) fn content_in(alloc: Global, bytes: &[u8]) -> Result<EventContent, Fail<InputFault>>
     ensures exact { Gives (λ c. c) result (database bytes.now) }
     ensures profile { IfOk result (λ c. IsEventProfile c) }
-    ensures run { IfOk result (λ c. length c.runs ≡ 1) }
+    ensures runs { IfOk result (λ c. length c.runs ≤ most_runs) }
 {
     event_databases_are_profiles();
     as_input(
@@ -47,7 +48,10 @@ fn index_of(event: Event, events: &[EventPeriod]) -> Option<usize>
 }
 
 /// The place of an event in the list, that of the first where none is named; or the refusal of one that isn't there.
-fn place_of(event: Option<Event>, events: &[EventPeriod]) -> Result<u32, Fail<InputFault>>
+pub(super) fn place_of(
+    event: Option<Event>,
+    events: &[EventPeriod],
+) -> Result<u32, Fail<InputFault>>
     requires { AreEvents events.now }
     ensures exact { Gives (λ place. place) result (place_shown event events.now) }
     ensures within { IfOk result (λ place. place < length events.now) }
@@ -62,9 +66,8 @@ fn place_of(event: Option<Event>, events: &[EventPeriod]) -> Result<u32, Fail<In
 }
 
 /// The content of the event at this place. Where it is the only one, nothing is copied.
-fn event_at(alloc: Global, content: EventContent, place: u32) -> Result<Content, Memory>
+pub(super) fn event_at(alloc: Global, content: EventContent, place: u32) -> Result<Content, Memory>
     requires profile { IsEventProfile content }
-    requires run { length content.runs ≡ 1 }
     requires place { place < length content.events }
     ensures event { IfOk result (λ event. event ≡ content_of_event content place) }
     ensures profile { IfOk result (λ event. IsProfile event) }

@@ -5,7 +5,7 @@ pub(super) static FAULTS: [(&str, u32); 36] = [
     ("\n", 2),
     ("# a\n\n#b", 4),
     ("harts 0", 1),
-    ("harts 17", 1),
+    ("harts 65", 1),
     ("harts 01", 1),
     ("harts  1", 1),
     ("harts 1 ", 1),
@@ -34,7 +34,7 @@ pub(super) static FAULTS: [(&str, u32); 36] = [
     ("harts 1\nharts 1", 2),
     ("0 5\nharts 1", 1),
     ("#\n0 5", 2),
-    ("harts 16\n15 1\n16 1", 3),
+    ("harts 64\n63 1\n64 1", 3),
     ("harts 1\n0 5\n\n x", 4),
     ("\0\nharts 1", 1),
 ];
@@ -42,7 +42,7 @@ pub(super) static FAULTS: [(&str, u32); 36] = [
 /// Texts of schedules, how many harts they have, and their slices.
 pub(super) static SCHEDULES: [(&str, u32, &[(u32, u32)]); 6] = [
     ("harts 1", 1, &[]),
-    ("harts 16\n15 1", 16, &[(15, 1)]),
+    ("harts 64\n63 1", 64, &[(63, 1)]),
     ("# one\n\nharts 2\n#\n0 7\n\n1 3\n", 2, &[(0, 7), (1, 3)]),
     ("harts 1\n0 4294967295\n", 1, &[(0, 4294967295)]),
     (

@@ -3,11 +3,11 @@ use Rattle.std.specs.Prelude.{ℕ, ◌*◌, Bool, ◌==◌, if◌then◌else◌,
 use Rattle.scope_types.specs.declared.event.EventPeriod.{EventPeriod}
 use Rattle.scope_types.specs.declared.frame.Counted.{Counted}
 use Rattle.scope_types.specs.Columns.{hart_of_column, place_of_column}
-use Rattle.scope_types.specs.Distinct.{samples_in}
+use Rattle.scope_types.specs.Distinct.{ColumnRaw, samples_in}
 use Rattle.tree_types.specs.Values.{columns_below}
 use Rattle.rv_run.specs.State.{MachineState}
 use Rattle.thread_cct.specs.Adding.{samples_of_column}
-use Rattle.run_report.specs.Report.{closed, run_line, hart_lines}
+use Rattle.run_report.specs.Report.{closed, event_line, hart_lines, run_line, samples_by_event}
 
 -- how many samples those of the first columns have together that pass a test
 unfoldable pub samples_where : (ℕ → Bool) → List (List Counted) → ℕ → ℕ
@@ -35,3 +35,7 @@ abbrev pub named_line : List ℕ → ℕ → ℕ → List ℕ
 named_line name period samples =
     codes "event " ++ name ++ codes " period " ++ decimal period ++ codes " samples " ++ decimal samples
     ++ codes " total " ++ decimal (period * samples) ++ codes "\n"
+
+-- the line of an event, where so many are sampled; it is given with its place
+abbrev pub counted_line : ℕ → List ColumnRaw → ℕ × EventPeriod → List ℕ
+counted_line events samples numbered = event_line numbered.1 (samples_by_event events samples numbered.0)

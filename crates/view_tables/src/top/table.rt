@@ -8,7 +8,7 @@ ghost use Rattle.view_tables.specs.private.Values.{path_of_node, total_value};
 
 use crate::cells::{put_spaces, put_values};
 use crate::top::depth::depth_after;
-use crate::top::label::put_label;
+use crate::top::labels::put_label;
 use crate::top::row::{TableRow, row_at};
 use crate::values::total_of;
 use prof_bytes::{Memory, Text};

@@ -1,21 +1,17 @@
-use Rattle.std.proofs.Common.{◌≡◌, ◌∙◌, ◌<◌, ◌≤◌, ℕ, List, [], ◌∷◌, length, All, sym, ap, subst, arith}
-use Rattle.std.proofs.lemmas.List.Elements.{All-cons, All-nil}
+use Rattle.std.proofs.Common.{◌≡◌, ◌∙◌, ◌<◌, ℕ, List, length, All, sym, ap, subst, arith}
 use Rattle.scope_find.specs.Found.{naming_of}
 use Rattle.scope_types.specs.CallPaths.{ColumnPath}
-use Rattle.scope_types.specs.Columns.{columns_of, paths_of_event, period_of_column}
+use Rattle.scope_types.specs.Columns.{columns_of, period_of_column}
 use Rattle.scope_types.specs.Events.{periods_of}
-use Rattle.scope_types.specs.Limits.{most_harts}
 use Rattle.stripe_table.specs.Ends.{named_paths}
 use Rattle.tree_types.specs.declared.content.EventContent.{EventContent}
-use Rattle.tree_types.specs.Database.{period_at}
 use Rattle.tree_types.specs.NodeValues.{values_of}
 use Rattle.tree_types.specs.OfContent.{IsEventProfile, content_of_event, content_table}
 use Rattle.tree_types.specs.PathsOf.{tree_paths}
 use Rattle.tree_types.specs.Planes.{context_plane, profile_plane}
-use Rattle.tree_types.specs.TopDown.{top_down}
 use Rattle.tree_types.specs.Tree.{CountedTree, IsTree}
 use Rattle.hpc_top.proofs.Contents.{content_is, few_counts}
-use Rattle.hpc_top.proofs.FewEvents.{few_columns, one_run, own_columns}
+use Rattle.hpc_top.proofs.FewEvents.{runs_columns}
 use Rattle.hpc_top.proofs.merged.content_named.Goals as goal
 
 pub sums-requires-clause-few : goal.sums-requires-clause-few
@@ -33,27 +29,24 @@ returns-clause-content g c =
     let sound : IsTree c.in_ok-tree.tree = subst IsTree c.tree.view_is c.tree.invariant in
     let valued = c.in_ok-values.ensures.values ∙ ap (λ (periods : List ℕ). values_of (period_of_column periods) c.in_ok-tree.tree) (c.as_slice.ensures.value ∙ c.in_ok-periods.ensures) in
     let planes = c.in_ok-planes.ensures.paths (period_of_column (periods_of c.args.events.now)) c.in_ok-tree.tree ps valued sound c.in_ok-tree.ensures.paths ns few in
-    let columns : c.in_ok-tree.tree.columns ≡ columns_of (length c.args.events.now) (c.args.harts ∷ []) = c.in_ok-tree.ensures.columns ∙ c.requires.columns ∙ sym (own_columns c.args.events.now c.args.harts) in
-    content_is c.args.events.now (c.args.harts ∷ []) (naming_of c.args.expander.now) ps
+    let columns : c.in_ok-tree.tree.columns ≡ columns_of (length c.args.events.now) c.args.runs.now = c.in_ok-tree.ensures.columns ∙ c.requires.columns in
+    content_is c.args.events.now c.args.runs.now (naming_of c.args.expander.now) ps
     (record { events = c.of.result; runs = c.of-2.result; names = c.in_ok-names.names; nodes = c.of-3.result; profiles = c.in_ok-planes.planes.0; contexts = c.in_ok-planes.planes.1 })
-    (c.of.ensures ∙ c.in_ok-own_events.ensures) (c.of-2.ensures ∙ c.in_ok-runs.ensures) named (c.of-3.ensures ∙ c.into_nodes.ensures ∙ ns)
+    (c.of.ensures ∙ c.in_ok-own_events.ensures) (c.of-2.ensures ∙ c.in_ok-own_runs.ensures) named (c.of-3.ensures ∙ c.into_nodes.ensures ∙ ns)
     (planes.0 ∙ ap (λ (n : ℕ). profile_plane (period_of_column (periods_of c.args.events.now)) n (named_paths c.args.stripes.now)) columns)
     (planes.1 ∙ ap (λ (n : ℕ). context_plane (period_of_column (periods_of c.args.events.now)) n (named_paths c.args.stripes.now)) columns)
 
 pub returns-clause-profile : goal.returns-clause-profile
 returns-clause-profile g c =
-    let columns : c.args.columns ≡ columns_of (length c.args.events.now) (c.args.harts ∷ []) = c.requires.columns ∙ sym (own_columns c.args.events.now c.args.harts) in
-    let few = few_columns c.args.events.now c.args.harts c.requires.events c.requires.harts.1 in
-    let own = own_columns c.args.events.now c.args.harts in
+    let columns : c.args.columns ≡ columns_of (length c.args.events.now) c.args.runs.now = c.requires.columns in
+    let some = c.requires.runs.some in
     subst IsEventProfile (sym (returns-clause-content g c))
-    (c.event_paths_make_a_profile.ensures c.args.events.now (c.args.harts ∷ []) (naming_of c.args.expander.now) (named_paths c.args.stripes.now) c.requires.events (omega arith)
-    (All-cons (λ (h : ℕ). (0 < h) × (h ≤ most_harts)) c.args.harts [] c.requires.harts (All-nil (λ (h : ℕ). (0 < h) × (h ≤ most_harts)))) (omega (arith, few, own)) c.in_ok-tree.ensures.few c.in_ok-tree.ensures.own.0
+    (c.event_paths_make_a_profile.ensures c.args.events.now c.args.runs.now (naming_of c.args.expander.now) (named_paths c.args.stripes.now) c.requires.events (omega (arith, some)) c.requires.runs.harts (runs_columns c.args.events.now c.args.runs.now c.requires.events c.requires.runs) c.in_ok-tree.ensures.few c.in_ok-tree.ensures.own.0
     (subst (λ (n : ℕ). All (λ (p : ColumnPath). p.column < n) (named_paths c.args.stripes.now)) columns c.in_ok-tree.ensures.own.1) c.in_ok-tree.ensures.samples)
 
 pub returns-clause-tables : goal.returns-clause-tables
 returns-clause-tables g c place within =
-    let columns : c.args.columns ≡ columns_of (length c.args.events.now) (c.args.harts ∷ []) = c.requires.columns ∙ sym (own_columns c.args.events.now c.args.harts) in
+    let columns : c.args.columns ≡ columns_of (length c.args.events.now) c.args.runs.now = c.requires.columns in
     ap (λ (q : EventContent). content_table (content_of_event q place)) (returns-clause-content g c)
-    ∙ c.event_contents_have_parts.ensures.table c.args.events.now (c.args.harts ∷ []) (naming_of c.args.expander.now) (named_paths c.args.stripes.now) place c.requires.events within c.in_ok-tree.ensures.few c.in_ok-tree.ensures.own.0
+    ∙ c.event_contents_have_parts.ensures.table c.args.events.now c.args.runs.now (naming_of c.args.expander.now) (named_paths c.args.stripes.now) place c.requires.events within c.in_ok-tree.ensures.few c.in_ok-tree.ensures.own.0
     (subst (λ (n : ℕ). All (λ (p : ColumnPath). p.column < n) (named_paths c.args.stripes.now)) columns c.in_ok-tree.ensures.own.1)
-    ∙ ap (λ (n : ℕ). top_down (period_at c.args.events.now place) n (naming_of c.args.expander.now) (paths_of_event (length c.args.events.now) place (named_paths c.args.stripes.now))) (one_run c.args.harts)

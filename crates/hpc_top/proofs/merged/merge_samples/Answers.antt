@@ -1,6 +1,7 @@
 use Rattle.std.proofs.Common.{◌≡◌, ◌∙◌, ◌<◌, ℕ, Ok, length, All, sym, ap, subst}
 use Rattle.std.proofs.lemmas.Result.{err_from_is_err_and}
 use Rattle.scope_find.specs.Found.{ProgramScopes, found_at}
+use Rattle.scope_types.specs.Columns.{columns_of}
 use Rattle.scope_types.specs.Distinct.{ColumnRaw, distinct}
 use Rattle.scope_types.specs.Expansion.{call_path}
 use Rattle.stripe_table.specs.Ends.{AllFit, named_paths}
@@ -9,7 +10,6 @@ use Rattle.thread_cct.specs.Plan.{IsMergeable}
 use Rattle.hpc_top.specs.declared.merged.Merged.{Merged}
 use Rattle.hpc_top.specs.Attribution.{attributed}
 use Rattle.hpc_top.specs.Merged.{merging}
-use Rattle.hpc_top.specs.Samples.{run_columns}
 use Rattle.hpc_top.specs.private.Merging.{Merges}
 use Rattle.hpc_top.proofs.Products.{merge_is, plan_columns, refused_of, tables_of}
 use Rattle.hpc_top.proofs.merged.merge_samples.Goals as goal
@@ -17,7 +17,7 @@ use Rattle.hpc_top.proofs.merged.merge_samples.Goals as goal
 pub returns-in_err-plan-clause-merged : goal.returns-in_err-plan-clause-merged
 returns-in_err-plan-clause-merged g c samples are own =
     let p = err_from_is_err_and c.from_residual.result c.from_residual.ensures.1 in
-    rw (p.1, p.2) (refused_of c.args.merge.now.events.now c.args.merge.now.harts c.args.ccts.now samples (are ∙ ap (λ (n : ℕ). distinct n samples) c.requires.columns) c.of-expander.result c.args.finder.now c.of-expander.ensures _ c.in_err-plan.ensures.answer)
+    rw (p.1, p.2) (refused_of c.args.merge.now.events.now c.args.merge.now.runs.now c.args.ccts.now samples (are ∙ ap (λ (n : ℕ). distinct n samples) c.requires.columns) c.of-expander.result c.args.finder.now c.of-expander.ensures _ c.in_err-plan.ensures.answer)
 
 pub content_named-requires-clause-columns : goal.content_named-requires-clause-columns
 content_named-requires-clause-columns g c κs within =
@@ -35,9 +35,9 @@ returns-clause-merged g c samples are own =
     let program : ProgramScopes = c.of-expander.result in
     let by = merging (g.C.Crews.gives c.args.merge.now.crews.now) (g.C.Crews.whole c.args.merge.now.crews.now) c.args.merge.now.workers in
     let m : Merged = record { content = c.in_ok-content.content; crew = c.in_ok-crew.crew } in
-    let columns : length c.args.ccts.now ≡ run_columns c.args.merge.now.events.now c.args.merge.now.harts = c.requires.columns in
-    subst (λ (q : ProgramScopes). Merges by (Ok m) (attributed q c.args.merge.now.events.now c.args.merge.now.harts samples)) c.of-expander.ensures
-    (merge_is by program c.args.merge.now.events.now c.args.merge.now.harts c.args.ccts.now samples (are ∙ ap (λ (n : ℕ). distinct n samples) columns) c.stripes_hold_the_samples.ensures.samples
+    let columns : length c.args.ccts.now ≡ columns_of (length c.args.merge.now.events.now) c.args.merge.now.runs.now = c.requires.columns in
+    subst (λ (q : ProgramScopes). Merges by (Ok m) (attributed q c.args.merge.now.events.now c.args.merge.now.runs.now samples)) c.of-expander.ensures
+    (merge_is by program c.args.merge.now.events.now c.args.merge.now.runs.now c.args.ccts.now samples (are ∙ ap (λ (n : ℕ). distinct n samples) columns) c.stripes_hold_the_samples.ensures.samples
     (subst (λ (n : ℕ). All (λ (s : ColumnRaw). s.column < n) samples) columns own) c.in_ok-plan.plan m c.in_ok-plan.ensures.answer c.in_ok-crew.ensures.gives c.in_ok-crew.ensures.plan c.in_ok-crew.ensures.whole
     c.in_ok-content.ensures.content
-    (tables_of program c.args.merge.now.events.now c.args.merge.now.harts samples (named_paths c.in_ok-crew.crew.stripes) c.in_ok-content.content c.in_ok-content.ensures.tables))
+    (tables_of program c.args.merge.now.events.now c.args.merge.now.runs.now samples (named_paths c.in_ok-crew.crew.stripes) c.in_ok-content.content c.in_ok-content.ensures.tables))

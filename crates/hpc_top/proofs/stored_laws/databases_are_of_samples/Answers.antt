@@ -1,3 +1,4 @@
+use Rattle.hpc_top.proofs.StoredRuns.{runs_stored}
 use Rattle.hpc_top.proofs.StoredSamples.{profiles_stored, profs_stored}
 use Rattle.hpc_top.proofs.stored_laws.databases_are_of_samples.Goals as goal
 
@@ -5,6 +6,7 @@ pub returns-clause-profile : goal.returns-clause-profile
 returns-clause-profile c =
     profiles_stored (record {
       shown = c.views_are_of_call_paths.ensures.stored;
+      summed = c.summaries_are_of_call_paths.ensures.stored;
       read = c.event_call_paths_are_stored.ensures.read;
       call_paths = c.call_paths_are_stored.ensures.paths;
       samples_alike = c.samples_are_counted.ensures.alike;
@@ -16,13 +18,31 @@ pub returns-clause-prof : goal.returns-clause-prof
 returns-clause-prof c =
     profs_stored (record {
       shown = c.views_are_of_call_paths.ensures.stored;
+      summed = c.summaries_are_of_call_paths.ensures.stored;
       read = c.event_call_paths_are_stored.ensures.read;
       call_paths = c.call_paths_are_stored.ensures.paths;
       samples_alike = c.samples_are_counted.ensures.alike;
       nodes_alike = c.counts_decide.ensures.nodes;
       nodes_few = c.nodes_are_few.ensures;
     }) (record {
-      measurable = c.read_is_written.ensures.measurable;
+      measurable = c.event_read_is_written.ensures.measurable;
+      again = c.measurements_count_samples.ensures.distinct;
+      many = c.measurements_count_samples.ensures.many;
+      columns = c.measurements_count_samples.ensures.columns;
+    })
+
+pub returns-clause-merge : goal.returns-clause-merge
+returns-clause-merge c =
+    runs_stored (record {
+      shown = c.views_are_of_call_paths.ensures.stored;
+      summed = c.summaries_are_of_call_paths.ensures.stored;
+      read = c.event_call_paths_are_stored.ensures.read;
+      call_paths = c.call_paths_are_stored.ensures.paths;
+      samples_alike = c.samples_are_counted.ensures.alike;
+      nodes_alike = c.counts_decide.ensures.nodes;
+      nodes_few = c.nodes_are_few.ensures;
+    }) (record {
+      measurable = c.event_read_is_written.ensures.measurable;
       again = c.measurements_count_samples.ensures.distinct;
       many = c.measurements_count_samples.ensures.many;
       columns = c.measurements_count_samples.ensures.columns;

@@ -8,5 +8,5 @@ pub returns-clause-measured : goal.returns-clause-measured
 unfolding measurement_in
 returns-clause-measured c =
     let bytes : IsBytes c.args.bytes.now = λ i. (let fits = c.type_inv.bytes i in omega (arith, fits)) in
-    let is : measurement_in c.args.bytes.now ≡ Ok (record { length = c.in_ok-length.length; entry = c.in_ok-entry.entry; period = c.in_ok-period.period }, c.in_ok-ccts.ccts) = search rules in
+    let is : measurement_in c.args.bytes.now ≡ Ok (c.single_head.result, c.in_ok-head.ccts) = search rules in
     read_measurable c.args.bytes.now _ bytes is

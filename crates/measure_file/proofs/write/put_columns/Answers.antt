@@ -6,7 +6,7 @@ use Rattle.measure_file.proofs.write.put_columns.Goals as goal
 
 pub loop-column-preserved : goal.loop-column-preserved
 loop-column-preserved c =
-    let many = c.columns-column-end.ensures.columns in
+    let many = c.requires in
     let test = c.loop-column-test.true in
     let own : c.loop-column.column < length c.args.ccts.now = omega (arith, many, test) in
     append_more column_bytes _ _ _ _ _ _ own (get_or_default _ _ _ _ own) c.loop-column.invariant c.in_ok-put_column.ensures

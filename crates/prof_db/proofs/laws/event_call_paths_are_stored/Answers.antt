@@ -8,4 +8,4 @@ pub returns-clause-read : goal.returns-clause-read
 returns-clause-read c = event_content_read
 
 pub returns-clause-table : goal.returns-clause-table
-returns-clause-table c events harts naming paths place stored inside = event_content_tabled events harts naming paths stored place inside
+returns-clause-table c events runs naming paths place stored inside = event_content_tabled events runs naming paths stored place inside

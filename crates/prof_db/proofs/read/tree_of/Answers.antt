@@ -13,7 +13,7 @@ pub counts_in-requires-clause-few : goal.counts_in-requires-clause-few
 counts_in-requires-clause-few c = few_each c.args.layout.now c.args.nodes.items c.requires.kept c.args.periods.now _ c.requires.periods c.items.ensures
 
 pub counts_in-requires-clause-columns : goal.counts_in-requires-clause-columns
-counts_in-requires-clause-columns c = columns_each c.args.layout.now c.args.nodes.items c.requires.kept _ c.requires.head c.requires.run c.items.ensures
+counts_in-requires-clause-columns c = columns_each c.args.layout.now c.args.nodes.items c.requires.kept _ c.requires.head c.items.ensures
 
 pub of-requires : goal.of-requires
 of-requires c =

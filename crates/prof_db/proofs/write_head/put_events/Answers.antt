@@ -4,15 +4,15 @@ use Rattle.std.proofs.lemmas.List.{get_or_default}
 use Rattle.prof_bytes.specs.Number.{word, words}
 use Rattle.prof_bytes.proofs.Appending.{append_more}
 use Rattle.scope_types.specs.declared.event.EventPeriod.{EventPeriod}
-use Rattle.prof_db.specs.Spelling.{event_numbers}
+use Rattle.scope_types.specs.Events.{event_words}
 use Rattle.prof_db.proofs.BackPlanes.{flat_again}
 use Rattle.prof_db.proofs.write_head.put_events.Goals as goal
 
 pub loop-e-preserved : goal.loop-e-preserved
-loop-e-preserved c = append_more (λ (e : EventPeriod). words (event_numbers e)) _ _ _ _ _ _ c.loop-e-test.true (get_or_default _ _ _ _ c.loop-e-test.true) c.loop-e.invariant c.in_ok-put_event.ensures
+loop-e-preserved c = append_more (λ (e : EventPeriod). words (event_words e)) _ _ _ _ _ _ c.loop-e-test.true (get_or_default _ _ _ _ c.loop-e-test.true) c.loop-e.invariant c.in_ok-put_event.ensures
 
 pub returns : goal.returns
 returns c =
     c.loop-e.invariant
     ∙ ap (λ (l : List ℕ). c.args.out.now.items ++ l)
-    (ap (flat_map (λ (e : EventPeriod). words (event_numbers e))) (take_all c.loop-e.e-index c.args.events.now c.loop-e-test.false) ∙ sym (flat_again word event_numbers c.args.events.now))
+    (ap (flat_map (λ (e : EventPeriod). words (event_words e))) (take_all c.loop-e.e-index c.args.events.now c.loop-e-test.false) ∙ sym (flat_again word event_words c.args.events.now))

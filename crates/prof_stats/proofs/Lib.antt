@@ -1,0 +1,6 @@
+mod Summaries
+mod NodeSpreads
+mod Divisors
+mod StatsRows
+mod OfCallPaths
+mod StatementSums

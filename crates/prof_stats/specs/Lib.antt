@@ -1,0 +1,4 @@
+pub mod Stats
+pub mod StatsTable
+pub mod Sums
+pub mod private

@@ -1,0 +1,19 @@
+mod Writing
+mod Distinct
+mod Places
+mod Kept
+mod Sums
+mod HartSums
+mod Forth
+mod ForthSamples
+mod ForthFile
+mod Back
+mod BackSamples
+mod BackFile
+mod Lengths
+mod Shown
+mod Ended
+mod Known
+mod Lines
+mod Whole
+pub mod Letters

@@ -1,0 +1,166 @@
+//! The single numbers of a trace file.
+ghost use Rattle.std.specs.Prelude.{◌≡◌, ◌+◌, ◌≤◌, ◌<◌, length, IfOk, []};
+ghost use Rattle.prof_bytes.specs.Outcome.{GivesAt, GivesFrom};
+ghost use Rattle.prof_bytes.specs.Repeated.{adding, times};
+ghost use Rattle.scope_types.specs.Limits.{most_frames_in_all, most_frames_of_path, most_harts, most_samples};
+ghost use Rattle.measure_file.specs.Reading.{is_end_number, is_harts, is_length, is_period, path_end};
+ghost use Rattle.trace_lines.specs.Fields.{long_from, word_from, word_by};
+ghost use Rattle.trace_lines.specs.Reading.{is_place, is_sample_count, traced_frame_from};
+
+use crate::fault::TraceFault;
+use prof_bytes::{Cursor, Fail};
+use scope_types::limits::{MOST_FRAMES_IN_ALL, MOST_FRAMES_OF_PATH, MOST_HARTS, MOST_SAMPLES};
+use scope_types::{End, Frame, PartialCause};
+use std::alloc::Global;
+
+pub(crate) fn fault_at(offset: usize) -> TraceFault
+    ensures { result ≡ record { offset = offset } }
+{
+    TraceFault {
+        offset: offset as u64,
+    }
+}
+
+pub(crate) fn read_word(cursor: &mut Cursor<'_>) -> Result<u32, TraceFault>
+    ensures { GivesAt (λ n. n) result cursor.new (word_from cursor.old) }
+{
+    let offset = cursor.place();
+    match cursor.u32() {
+        Some(number) => Ok(number),
+        None => Err(fault_at(offset)),
+    }
+}
+
+pub(crate) fn read_long(cursor: &mut Cursor<'_>) -> Result<u64, TraceFault>
+    ensures { GivesAt (λ n. n) result cursor.new (long_from cursor.old) }
+{
+    let offset = cursor.place();
+    match cursor.u64() {
+        Some(number) => Ok(number),
+        None => Err(fault_at(offset)),
+    }
+}
+
+pub(crate) fn read_period(cursor: &mut Cursor<'_>) -> Result<u32, TraceFault>
+    ensures read { GivesAt (λ n. n) result cursor.new (word_by is_period cursor.old) }
+    ensures some { IfOk result (λ n. 1 ≤ n) }
+{
+    let offset = cursor.place();
+    let period = read_word(cursor)?;
+    if period == 0 {
+        return Err(fault_at(offset));
+    }
+    Ok(period)
+}
+
+pub(crate) fn read_count_of_harts(cursor: &mut Cursor<'_>) -> Result<u32, TraceFault>
+    ensures read { GivesAt (λ n. n) result cursor.new (word_by is_harts cursor.old) }
+    ensures some { IfOk result (λ n. 1 ≤ n) }
+    ensures few { IfOk result (λ n. n ≤ most_harts) }
+{
+    let offset = cursor.place();
+    let harts = read_word(cursor)?;
+    if harts == 0 || harts > MOST_HARTS as u32 {
+        return Err(fault_at(offset));
+    }
+    Ok(harts)
+}
+
+pub(crate) fn path_end(number: u32) -> End
+    ensures { result ≡ path_end number }
+{
+    match number {
+        0 => End::Whole,
+        1 => End::Partial(PartialCause::NoFde),
+        2 => End::Partial(PartialCause::NoCfa),
+        3 => End::Partial(PartialCause::Expression),
+        4 => End::Partial(PartialCause::Unmapped),
+        _ => End::Partial(PartialCause::Depth),
+    }
+}
+
+/// The number of a path's end.
+pub(crate) fn read_end(cursor: &mut Cursor<'_>) -> Result<u32, TraceFault>
+    ensures { GivesAt (λ n. n) result cursor.new (word_by is_end_number cursor.old) }
+{
+    let offset = cursor.place();
+    let end = read_word(cursor)?;
+    if end > 5 {
+        return Err(fault_at(offset));
+    }
+    Ok(end)
+}
+
+/// How many frames a path has, where the paths before it have `frames` frames.
+pub(crate) fn read_length(cursor: &mut Cursor<'_>, frames: u32) -> Result<u32, TraceFault>
+    requires { frames ≤ most_frames_in_all }
+    ensures read { GivesAt (λ n. n) result cursor.new (word_by (is_length frames) cursor.old) }
+    ensures fits { IfOk result (λ n. (1 ≤ n) × (n ≤ most_frames_of_path) × (frames + n ≤ most_frames_in_all)) }
+{
+    let offset = cursor.place();
+    let length = read_word(cursor)?;
+    if length == 0 || length > MOST_FRAMES_OF_PATH || length > MOST_FRAMES_IN_ALL - frames {
+        return Err(fault_at(offset));
+    }
+    Ok(length)
+}
+
+/// How many samples a hart has that retired so many instructions, where the harts before it have `samples` samples.
+pub(crate) fn read_sample_count(
+    cursor: &mut Cursor<'_>,
+    period: u32,
+    retired: u64,
+    samples: u32,
+) -> Result<u32, TraceFault>
+    requires period { 1 ≤ period }
+    requires few { samples ≤ most_samples }
+    ensures read { GivesAt (λ n. n) result cursor.new (word_by (is_sample_count period retired samples) cursor.old) }
+    ensures fits { IfOk result (λ n. samples + n ≤ most_samples) }
+{
+    let offset = cursor.place();
+    let count = read_word(cursor)?;
+    if u64::from(count) != retired / u64::from(period) || count > MOST_SAMPLES - samples {
+        return Err(fault_at(offset));
+    }
+    Ok(count)
+}
+
+/// The place of a sample's path: one of the first `used` of `paths` paths, or the next.
+pub(crate) fn read_place(cursor: &mut Cursor<'_>, paths: u32, used: u32) -> Result<u32, TraceFault>
+    ensures read { GivesAt (λ n. n) result cursor.new (word_by (is_place paths used) cursor.old) }
+    ensures below { IfOk result (λ n. n < paths) }
+    ensures next { IfOk result (λ n. n ≤ used) }
+{
+    let offset = cursor.place();
+    let place = read_word(cursor)?;
+    if place >= paths || place > used {
+        return Err(fault_at(offset));
+    }
+    Ok(place)
+}
+
+#[tactic(auto, unfolding(crate::specs::Reading::traced_frame_from))]
+fn read_frame(cursor: &mut Cursor<'_>) -> Result<Frame, TraceFault>
+    ensures { GivesAt (λ frame. frame) result cursor.new (traced_frame_from cursor.old) }
+{
+    let pc = read_word(cursor)?;
+    Ok(Frame { pc })
+}
+
+/// `count` frames. The list grows as they are read.
+pub(crate) fn read_frames(
+    alloc: Global,
+    cursor: &mut Cursor<'_>,
+    count: u32,
+) -> Result<Vec<Frame>, Fail<TraceFault>>
+    ensures read { GivesFrom (λ v. v.items) result cursor.new
+        (times (adding traced_frame_from) count 0 [] cursor.old) }
+    ensures many { IfOk result (λ v. length v.items ≡ count) }
+{
+    let mut frames = Vec::new(alloc);
+    for _ in 0..count {
+        let frame = read_frame(cursor)?;
+        frames.push(frame)?;
+    }
+    Ok(frames)
+}
