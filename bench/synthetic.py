@@ -150,13 +150,13 @@ def flat():
     return elf([(CODE, code, len(code), READ_EXECUTE)])
 
 
-def wide():
+def wide(sites=WIDE_SITES):
     depth = WIDE_FRAMES - 2
     # In its round a sample stands behind the call's two words, five in `descend` at each depth, and three at depth 0.
     lead = WIDE_ROUND - (2 + 5 * depth + 3)
     head = [f"addi t0, zero, {lead // 2}", "wait:", "addi t0, t0, -1", "bne t0, zero, wait"]
     head += ["addi t1, zero, 0"] * (lead - 1 - 2 * (lead // 2))
-    calls = [f"addi a0, zero, {depth}", "jal ra, descend"] * WIDE_SITES
+    calls = [f"addi a0, zero, {depth}", "jal ra, descend"] * sites
     start = head + calls + ["loop:", "jal zero, loop"]
     words = sum(not line.endswith(":") for line in start)
     return of_two("\n".join(start) + WIDE_BODY, 4 * words)

@@ -4,6 +4,8 @@
 //! the database, and prints the report. It takes well-formed files alone. PERIOD is that of retired instructions, or a
 //! list of events with theirs.
 //! `baseline merge [--workers N] [--phases] ELF DB MEASURE ..` makes the database and the tables of measurements.
+//! `baseline trace [--phases] ELF INPUT SCHEDULE PERIOD TRACE` stores the trace of a run, and `baseline timeline ELF
+//! TRACE DEPTH CELLS` puts its timeline.
 //! `--phases` writes to standard error what each phase took; `--until` ends after one.
 
 mod cfi;
@@ -23,6 +25,7 @@ mod ordered;
 mod ranges;
 mod scopes;
 mod table;
+mod traces;
 mod tree;
 mod unwind;
 
@@ -49,6 +52,8 @@ fn refuse(text: &str) -> ! {
 fn usage() -> ! {
     eprintln!("usage: baseline [--workers N] [--phases] [--until PHASE] ELF INPUT SCHEDULE PERIOD DB");
     eprintln!("       baseline merge [--workers N] [--phases] [--until PHASE] ELF DB MEASURE ..");
+    eprintln!("       baseline trace [--phases] [--until PHASE] ELF INPUT SCHEDULE PERIOD TRACE");
+    eprintln!("       baseline timeline ELF TRACE DEPTH CELLS");
     exit(2)
 }
 
@@ -75,14 +80,15 @@ impl Words {
             }
         }
         let is_phase = words.last_phase.is_empty() || PHASES.contains(&words.last_phase.as_str());
-        let is_whole = words.is_merge() && words.files.len() > 3 || words.files.len() == 5;
+        let is_trace = words.is_called("trace") && words.files.len() == 6;
+        let is_whole = words.is_called("merge") && words.files.len() > 3 || words.files.len() == 5 || is_trace;
         if is_whole && is_phase { words } else { usage() }
     }
 }
 
 impl Words {
-    fn is_merge(&self) -> bool {
-        self.files.first().is_some_and(|word| word == "merge")
+    fn is_called(&self, command: &str) -> bool {
+        self.files.first().is_some_and(|word| word == command)
     }
 }
 
@@ -120,8 +126,8 @@ fn schedule(text: &str) -> (u32, Vec<(usize, u64)>) {
     (harts, lines.map(slice).collect())
 }
 
-/// Runs the slices where retired is the only event. A sample is taken of the state before each instruction whose number in its hart is a multiple of
-/// the period, and counts if that instruction retires.
+/// Runs the slices where retired is the only event. A sample is taken of the state before each instruction whose number
+/// in its hart is a multiple of the period, and counts if that instruction retires.
 fn run(machine: &mut Machine, unwinder: &mut Unwinder, slices: &[(usize, u64)], period: u64) -> Paths {
     let mut next = vec![period; machine.harts.len()];
     let (mut paths, mut trail, mut samples) = (Paths::new(), Trail::new(), 0);
@@ -171,11 +177,42 @@ fn merge(words: &Words, mut clock: Clock) -> std::io::Result<()> {
     Ok(())
 }
 
+/// Stores the trace of a run, and puts the report without its table.
+fn trace(words: &Words, mut clock: Clock) -> std::io::Result<()> {
+    let [_, elf, input, text, period, trace] = words.files.as_slice() else { usage() };
+    let (file, input) = (std::fs::read(elf)?, std::fs::read(input)?);
+    let (harts, slices) = schedule(&std::fs::read_to_string(text)?);
+    let period: u32 = period.parse().ok().filter(|period| *period > 0).unwrap_or_else(|| usage());
+    let program = elf::Program::read(&file);
+    let rows = Rows::read(&program).unwrap_or_else(|fault| refuse(&format!("frames at {}", fault.0)));
+    let mut unwinder = Unwinder::of(rows);
+    let mut machine = Machine::start(&program, harts, &input);
+    clock.done("start");
+    let traced = traces::run(&mut machine, &mut unwinder, &slices, u64::from(period));
+    clock.done("run");
+    let bytes = traced.bytes(&program, &machine, period);
+    clock.done("database");
+    std::fs::write(trace, &bytes)?;
+    clock.done("store");
+    table::traced(&machine, |hart| traced.samples(hart), period, std::io::stdout().lock())?;
+    clock.done("report");
+    Ok(())
+}
+
+fn timeline(words: &Words) -> std::io::Result<()> {
+    let [_, elf, trace, depth, cells] = words.files.as_slice() else { usage() };
+    let (depth, cells) = (depth.parse().unwrap_or_else(|_| usage()), cells.parse().unwrap_or_else(|_| usage()));
+    traces::timeline(elf.as_ref(), trace.as_ref(), depth, cells, &mut std::io::stdout().lock())
+}
+
 fn main() -> std::io::Result<()> {
     let words = Words::read();
     let mut clock = Clock { words: &words, since: Instant::now() };
-    if words.is_merge() {
-        return merge(&words, clock);
+    match words.files[0].as_str() {
+        "merge" => return merge(&words, clock),
+        "trace" => return trace(&words, clock),
+        "timeline" => return timeline(&words),
+        _ => {}
     }
     let [elf, input, text, period, database] = words.files.as_slice() else { usage() };
     let (file, input) = (std::fs::read(elf)?, std::fs::read(input)?);

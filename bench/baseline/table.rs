@@ -114,6 +114,22 @@ pub fn report(
     tables(&mut text, tree, columns, events)
 }
 
+/// What `trace` puts: the report without its table.
+pub fn traced(machine: &Machine, samples: impl Fn(usize) -> usize, period: u32, mut to: impl Write) -> Result<()> {
+    let harts = machine.harts.len();
+    let all: u64 = (0..harts).map(|hart| samples(hart) as u64).sum();
+    to.write_all(&machine.output)?;
+    if machine.output.last().is_some_and(|byte| *byte != b'\n') {
+        to.write_all(b"\n")?;
+    }
+    writeln!(to, "harts {harts} period {period} samples {all} total {}", all * u64::from(period))?;
+    for (number, hart) in machine.harts.iter().enumerate() {
+        let (found, end) = (samples(number), end_of(hart.end));
+        writeln!(to, "hart {number} retired {} samples {found} end {end}", hart.done[0])?;
+    }
+    Ok(())
+}
+
 /// What `merge` puts: the tables alone.
 pub fn merged(tree: &Tree, columns: &[Column], events: &[EventPeriod], to: impl Write) -> Result<()> {
     tables(&mut Text { to, bytes: Vec::new() }, tree, columns, events)

@@ -169,7 +169,7 @@ pub struct Path {
     pub frames: u16,
     pub column: u16,
     pub is_whole: bool,
-    end: End,
+    pub end: End,
 }
 
 /// The distinct paths of all columns, in the order of their first samples.
@@ -190,6 +190,18 @@ impl Paths {
     /// Counts so many samples of a path; answers whether it is new.
     #[inline(always)]
     pub fn add(&mut self, column: usize, trail: &Trail, count: u32) -> bool {
+        let known = self.list.len();
+        self.found(column, trail, count) == known
+    }
+
+    /// Counts a sample of a path; answers its place in the list.
+    #[inline(always)]
+    pub fn place(&mut self, column: usize, trail: &Trail) -> usize {
+        self.found(column, trail, 1)
+    }
+
+    #[inline(always)]
+    fn found(&mut self, column: usize, trail: &Trail, count: u32) -> usize {
         let frames = &trail.frames[..trail.count];
         let hash = ((trail.hash ^ (column as u64) << 8 ^ trail.end as u64).wrapping_mul(FACTOR) >> 32) as u32;
         let mask = self.slots.len() - 1;
@@ -201,13 +213,13 @@ impl Paths {
                 let is_same = path.column as usize == column && path.end == trail.end;
                 if is_same && self.words[path.first as usize..][..path.frames as usize] == *frames {
                     path.count += count;
-                    return false;
+                    return entry as u32 as usize - 1;
                 }
             }
             slot = (slot + 1) & mask;
         }
         self.insert(column, trail, count, hash, slot);
-        true
+        self.list.len() - 1
     }
 
     #[cold]

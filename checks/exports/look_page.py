@@ -35,7 +35,7 @@ def look_at_page(name, database, profile, period, harts):
     for mark in ("http:", "https:", "src=", "href=", "@import", "url("):
         if mark in text:
             complain(f"{name}: the page has {mark}, though it has no network")
-    same(f"{name}: scripts of the page", text.count("</script>"), 4)
+    same(f"{name}: scripts of the page", text.count("</script>"), 5)
     names, columns = page_columns(text)
     nodes = databases.tree(profile)
     same(f"{name}: the page's nodes", names["nodes"], len(nodes))

@@ -18,6 +18,7 @@ kind_of() {
   case $first in
   HPCPROF[123]) echo 'a database' ;;
   HPCRUNM[12]) echo 'a measurement' ;;
+  HPCTRAC1) echo 'a trace' ;;
   $'\x7fELF'*) echo 'an ELF file' ;;
   '!<arch>'*) echo 'a library (ar)' ;;
   'harts '*) echo 'a schedule' ;;

@@ -4,8 +4,8 @@
 # The numbers of the words, from 1, that name the files which a command reads.
 places_read() {
   case $1 in
-  profile | run) seq 2 4 ;;
-  prof) seq 2 3 ;;
+  profile | run | live | trace) seq 2 4 ;;
+  prof | timeline) seq 2 3 ;;
   merge) echo 2; seq 5 $# ;;
   struct | view | stats) echo 2 ;;
   esac
@@ -21,7 +21,8 @@ files_read() {
 place_stored() {
   case $1 in
   profile) echo 7 ;;
-  run) echo 6 ;;
+  live) echo 8 ;;
+  run | trace) echo 6 ;;
   prof) echo 5 ;;
   merge) echo 4 ;;
   esac

@@ -1,7 +1,8 @@
 """One page for a browser, without any network: the files of page/ put together, with the database in it.
 
 The page gets the nodes and the exclusive counts of samples, of each hart and event; all sums are its own. They are columns of numbers, deflated
-and in base64; the names are JSON, and so are the sources that were found, deflated too.
+and in base64; the names are JSON, and so are the sources that were found, deflated too. Of a trace it gets two columns more for
+each hart (timeline.py).
 """
 import base64
 import json
@@ -20,7 +21,8 @@ FOLDER = Path(__file__).with_name("page")
 # One script of the page each, in this order.
 SCRIPTS = (
     "profile.js", "shown.js", "spread.js", "graph.js", "colors.js", "icicle.js", "rows.js", "tables.js", "grid.js",
-    "search.js", "source.js", "filters.js", "panes.js", "link.js", "view.js", "main.js",
+    "search.js", "source.js", "filters.js", "panes.js", "trace.js", "timeline.js", "picture.js", "link.js", "view.js",
+    "main.js",
 )
 
 
@@ -37,9 +39,10 @@ def write(out, database, options):
         "NAMES": _names(database, options),
         "SOURCES": _packed([_json(_sources(database, options)).encode()]),
         "COLUMNS": _packed(_columns(database, options)),
+        "TRACE": _packed(options.timeline.packed() if options.timeline else []),
     }
     # Text and marks in turn.
-    parts = re.split("@(TITLE|STYLE|SCRIPT|NAMES|SOURCES|COLUMNS)@", (FOLDER / "body.html").read_text("utf-8"))
+    parts = re.split("@(TITLE|STYLE|SCRIPT|NAMES|SOURCES|COLUMNS|TRACE)@", (FOLDER / "body.html").read_text("utf-8"))
     for place, part in enumerate(parts):
         out.write((contents[part] if place % 2 else part).encode())
 
@@ -76,6 +79,8 @@ def _names(database, options):
         "minimum": options.min_percent,
         "partial": options.causes,
     }
+    if options.timeline:
+        names["trace"] = options.timeline.facts()
     if options.base:
         planes = options.base.planes
         names["before"] = {

@@ -10,12 +10,14 @@ import tempfile
 from dataclasses import dataclass, field
 from typing import List
 
-from . import callgrind, folded, html, linkage_names, measurement, nodes, source, speedscope
+from . import callgrind, folded, html, linkage_names, measurement, nodes, source, speedscope, traces
 from .comparison import Base
 from .contexts import Shown
 from .database import EVENTS, Malformed
 from .reader import begin
+from .refusals import DEVICE, INVALID, MALFORMED, Refused, read_file
 from .sources import Sources
+from .timeline import Timeline
 
 WRITERS = {
     "folded": folded.write,
@@ -33,9 +35,10 @@ ONLY = {
     "--source": ("html", "source"),
     "--measurement": ("html",),
     "--base": ("html", "folded"),
+    "--trace": ("html",),
+    "--struct": ("html", "perfetto", "speedscope"),
 }
-
-INVALID, MALFORMED, DEVICE = 2, 3, 4
+FORMATS = [*WRITERS, *sorted(set(traces.WRITERS) - set(WRITERS))]
 
 
 @dataclass
@@ -43,7 +46,8 @@ class Options:
     """What a format may be told: its title, which values are shown, and those of each event where a format has several
     of them, whether places of calls and statements are frames,
     the share of the total below which scopes are left out, whether the costliest comes first, where sources are, the
-    file whose source is written, why call paths are partial (texts with numbers of samples), and what is compared with."""
+    file whose source is written, why call paths are partial (texts with numbers of samples), what is compared with, and
+    what each hart did at each moment."""
 
     title: str
     shown: Shown
@@ -55,25 +59,26 @@ class Options:
     file: str = ""
     causes: List = field(default_factory=list)
     base: Base = None
-
-
-class Refused(Exception):
-    def __init__(self, status, line):
-        super().__init__(line)
-        self.status = status
+    timeline: Timeline = None
 
 
 def _arguments():
     parser = argparse.ArgumentParser(
         prog="hpc-export",
-        description="Exports a profiler's database for other tools, or as a page for a browser.",
+        description="Exports a profiler's database or trace for other tools, or as a page for a browser.",
         epilog="folded: collapsed stacks for flamegraph.pl, inferno, speedscope. speedscope: its own format. "
         "callgrind: for KCachegrind and callgrind_annotate. html: a page of its own, without any network. source: the "
         "text of FILE with the cost of each line. csv, json: a row for each node of the tree, with its values. "
-        "Status: 0 done, 2 an invalid command line, 3 a malformed database, 4 a file that can't be read or written.",
+        "perfetto, of a trace alone: the Trace Event format, for ui.perfetto.dev and chrome://tracing; speedscope takes "
+        "a trace too. A trace has addresses alone, and a database has no addresses by which to name them: the names are "
+        "those of --struct, the listing of the same program. "
+        "Status: 0 done, 2 an invalid command line, 3 a malformed file, 4 a file that can't be read or written.",
     )
-    parser.add_argument("database", metavar="DB", help="the database that `hpc profile` stored")
-    parser.add_argument("format", metavar="FORMAT", choices=list(WRITERS), help=" | ".join(WRITERS))
+    parser.add_argument(
+        "database", metavar="DB|TRACE",
+        help="the database that `hpc profile` stored, or the trace that `hpc trace` did: its first 8 bytes tell",
+    )
+    parser.add_argument("format", metavar="FORMAT", choices=FORMATS, help=" | ".join(FORMATS))
     parser.add_argument("file", metavar="FILE", nargs="?", help="source: the file, by its name or the end of it")
     parser.add_argument("-o", dest="output", metavar="FILE", help="write to FILE in place of standard output")
     parser.add_argument("--run", type=int, action="append", metavar="R", help="this run alone (may be repeated)")
@@ -104,6 +109,12 @@ def _arguments():
         "--base", metavar="BEFORE", help="html, folded: beside each value that of BEFORE, a database, by call path of names"
     )
     parser.add_argument("--measurement", metavar="MEASURE", help="html: say why call paths are partial")
+    parser.add_argument(
+        "--struct", metavar="LISTING", help="of a trace: the procedures of its program, as `hpc struct ELF` puts them"
+    )
+    parser.add_argument(
+        "--trace", metavar="TRACE", help="html: a timeline above the graph, of the trace of the same run; wants --struct"
+    )
     return parser
 
 
@@ -112,14 +123,6 @@ def _percent(word):
     if not 0 <= share <= 100:
         raise ValueError(word)
     return share
-
-
-def _read_file(name):
-    try:
-        with open(name, "rb") as file:
-            return file.read()
-    except OSError as error:
-        raise Refused(DEVICE, f"{name}: {error.strerror}") from error
 
 
 @contextlib.contextmanager
@@ -152,10 +155,10 @@ def _umask():
     return mask
 
 
-def _begun(name):
-    """The database of a file, and what waits until all of it is checked."""
+def _begun(name, data):
+    """The database of a file's bytes, and what waits until all of it is checked."""
     try:
-        database, finish = begin(_read_file(name))
+        database, finish = begin(data)
     except Malformed as error:
         raise Refused(MALFORMED, f"{name}: {error}") from error
 
@@ -185,7 +188,7 @@ def _causes(words, database):
     if words.measurement is None:
         return []
     try:
-        measured = measurement.read(_read_file(words.measurement))
+        measured = measurement.read(read_file(words.measurement))
     except measurement.Malformed as error:
         raise Refused(MALFORMED, f"{words.measurement}: {error}") from error
     counted = sum(path.samples for paths in measured.columns for path in paths)
@@ -238,7 +241,8 @@ def _base(words, before, every, events):
     return Base(before, os.path.basename(words.base), shown), [after for after, _ in both]
 
 
-def _options(words, database, before):
+def _options(words, database, named, before):
+    """`named` is the database with the names that its file has."""
     harts = _harts(words, database, words.database)
     places = _places(words, database)
     every, base = [Shown(harts, place) for place in places], None
@@ -255,6 +259,7 @@ def _options(words, database, before):
         sources=_sources(words),
         file=words.file,
         causes=_causes(words, database),
+        timeline=traces.timeline_of(words, named, harts),
     )
 
 
@@ -265,13 +270,25 @@ def _check_words(words):
             raise Refused(INVALID, f"{words.format} has no {option}")
     if (words.file is not None) != (words.format == "source"):
         raise Refused(INVALID, "source wants a FILE" if words.format == "source" else f"{words.format} takes no FILE")
+    if words.format == "html" and (words.trace is None) != (words.struct is None):
+        raise Refused(INVALID, "html takes --trace and --struct together")
+    if words.trace is not None and words.base is not None:
+        raise Refused(INVALID, "--base has no --trace")
 
 
-def _write(words, database, before, finish):
-    options = _options(words, database, before)
+def _check_words_of_trace(words):
+    """Refuses formats and options that a trace doesn't have."""
+    if words.format not in traces.WRITERS:
+        raise Refused(INVALID, f"{words.database}: a trace has no {words.format}, but {' and '.join(traces.WRITERS)}")
+    for option in ("--run", "--event", "--elf", "--places", "--min-percent"):
+        if getattr(words, option[2:].replace("-", "_")):
+            raise Refused(INVALID, f"{words.database}: a trace has no {option}")
+
+
+def _put(words, finish, write):
     try:
         with _opened(words.output, finish) as out:
-            WRITERS[words.format](out, database, options)
+            write(out)
             out.flush()
     except source.NotFound as error:
         raise Refused(INVALID, str(error)) from error
@@ -282,17 +299,41 @@ def _write(words, database, before, finish):
         raise Refused(DEVICE, f"{words.output or 'standard output'}: {error.strerror}") from error
 
 
+def _write(words, database, before, finish):
+    named = _named(words, database)
+    options = _options(words, named, database, before and _named(words, before))
+    _put(words, finish, lambda out: WRITERS[words.format](out, named, options))
+
+
+def _export_trace(words, data):
+    _check_words_of_trace(words)
+    slices, harts = traces.slices_of(words, data)
+    title = words.title or os.path.basename(words.database)
+    _put(words, lambda: None, lambda out: traces.WRITERS[words.format](out, slices, harts, title))
+
+
 def _export(words):
     _check_words(words)
-    database, finish = _begun(words.database)
-    before, finish_before = _begun(words.base) if words.base else (None, lambda: None)
+    data = read_file(words.database)
+    if traces.is_trace(data):
+        return _export_trace(words, data)
+    if words.format not in WRITERS:
+        raise Refused(INVALID, f"{words.database}: {words.format} wants a trace")
+    if words.struct and words.format != "html":
+        raise Refused(INVALID, f"{words.format} of a database has no --struct")
+    return _export_database(words, data)
+
+
+def _export_database(words, data):
+    database, finish = _begun(words.database, data)
+    before, finish_before = _begun(words.base, read_file(words.base)) if words.base else (None, lambda: None)
 
     def finish_both():
         finish()
         finish_before()
 
     try:
-        _write(words, _named(words, database), before and _named(words, before), finish_both)
+        _write(words, database, before, finish_both)
     except Refused:
         # That a database is malformed is said before all else.
         finish_both()

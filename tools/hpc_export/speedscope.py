@@ -1,8 +1,9 @@
 """speedscope's file format (https://www.speedscope.app/file-format-schema.json), a profile for each hart.
 
-The profiles are evented: the samples are walked in the tree's order, a frame opens where the first of its samples is
-met and closes behind the last, and the time is the cost so far. So the file grows with the nodes, and not with the
-paths' lengths. A frame that would close and open again at once stays open.
+The profiles are evented. Of a database the samples are walked in the tree's order, a frame opens where the first of its
+samples is met and closes behind the last, and the time is the cost so far. So the file grows with the nodes, and not
+with the paths' lengths. A frame that would close and open again at once stays open. Of a trace the time is the hart's
+retired instructions.
 """
 import json
 from itertools import compress
@@ -16,21 +17,47 @@ SCHEMA = "https://www.speedscope.app/file-format-schema.json"
 
 def write(out, database, options):
     frames = _Frames(database, options)
-    harts = options.shown.harts
-    out.write(b'{"$schema":"%s","exporter":"hpc-export",' % SCHEMA.encode())
-    out.write(b'"name":%s,"activeProfileIndex":0,' % _json(options.title))
-    out.write(b'"shared":{"frames":[\n%s]},"profiles":[' % b",\n".join(_json(frame) for frame in frames.table))
-    for hart in harts:
-        out.write(b"," if hart != harts[0] else b"")
+    _begin(out, options.title, frames.table)
+    for hart in options.shown.harts:
         plane = options.shown.plane(database, hart)
         name = database.hart_name(hart) + (f", {options.shown.event(database).name}" if database.version > 1 else "")
-        out.write(b'{"type":"evented","name":%s,"unit":"none","startValue":0,' % _json(name))
-        out.write(b'"endValue":%d,"events":[' % sum(plane.value))
-        events = _events(frames, plane)
-        if events:
-            out.write(b"\n" + ",\n".join(events).encode())
-        out.write(b"]}")
+        _profile(out, hart == options.shown.harts[0], name, sum(plane.value), _events(frames, plane))
     out.write(b"]}\n")
+
+
+def write_trace(out, slices, harts, title):
+    """The slices of a trace."""
+    # The frames come first in the file.
+    for hart in harts:
+        slices.paths(hart)
+    _begin(out, title, [{"name": label} for label in slices.labels])
+    for hart in harts:
+        _profile(out, hart == harts[0], f"hart {hart}", slices.trace.harts[hart].retired, _moved(slices.changes(hart)))
+    out.write(b"]}\n")
+
+
+def _moved(changes):
+    """The events of frames that end and begin."""
+    found = []
+    for moment, closed, opened in changes:
+        found += [f'{{"type":"C","frame":{frame},"at":{moment}}}' for frame in closed]
+        found += [f'{{"type":"O","frame":{frame},"at":{moment}}}' for frame in opened]
+    return found
+
+
+def _begin(out, title, frames):
+    out.write(b'{"$schema":"%s","exporter":"hpc-export",' % SCHEMA.encode())
+    out.write(b'"name":%s,"activeProfileIndex":0,' % _json(title))
+    out.write(b'"shared":{"frames":[\n%s]},"profiles":[' % b",\n".join(_json(frame) for frame in frames))
+
+
+def _profile(out, is_first, name, end, events):
+    out.write(b"" if is_first else b",")
+    out.write(b'{"type":"evented","name":%s,"unit":"none","startValue":0,' % _json(name))
+    out.write(b'"endValue":%d,"events":[' % end)
+    if events:
+        out.write(b"\n" + ",\n".join(events).encode())
+    out.write(b"]}")
 
 
 def _json(value):
@@ -43,8 +70,8 @@ _IS_ZERO = bytes([1]) + bytes(255)
 
 class _Frames:
     """The frames' table. For each node its frame (-1 where it is none); the nearest node at or above it with a frame (-1
-    where there is none), but of a statement that has none; and for a node with a frame the nearest above it, and how many
-    are above."""
+    where there is none), but of a statement that has none; and for a node with a frame the nearest above it, and how
+    many are above."""
 
     def __init__(self, database, options):
         self.nodes, self.labels = database.nodes, Labels(database, readable)

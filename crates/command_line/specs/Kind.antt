@@ -17,6 +17,7 @@ row_of kinds.Input = record { word = codes "input"; limit = 1048576 }
 row_of kinds.Schedule = record { word = codes "schedule"; limit = 4194304 }
 row_of kinds.Measurement = record { word = codes "measurement"; limit = measurement_limit }
 row_of kinds.Database = record { word = codes "database"; limit = 2147483648 }
+row_of kinds.Trace = record { word = codes "trace"; limit = 67108864 }
 
 -- the most bytes of a file of a kind
 abbrev pub file_limit : FileKind → ℕ

@@ -15,7 +15,7 @@ use Rattle.command_line.specs.declared.status.InputFault.TheVariants.{TooLong, S
 use Rattle.command_line.specs.declared.status.InputFault.TheVariants.{Entries, Lines, Structure}
 use Rattle.command_line.specs.declared.status.InputFault.TheVariants.{TooManySamples, TooManyFrames, TooManyScopes}
 use Rattle.command_line.specs.declared.status.InputFault.TheVariants.{Measurement, WrongProgram, Database, NoEvent}
-use Rattle.command_line.specs.declared.status.InputFault.TheVariants.{Merging}
+use Rattle.command_line.specs.declared.status.InputFault.TheVariants.{Merging, Trace}
 use Rattle.command_line.specs.declared.status.MergeFault.{MergeFault}
 use Rattle.command_line.specs.declared.status.MergeFault.TheVariants as merges
 use Rattle.command_line.specs.declared.status.Place.{Place}
@@ -92,6 +92,7 @@ fault_text (WrongProgram kept_length kept_entry found_length found_entry) =
     ++ codes " found " ++ decimal found_length ++ codes " " ++ decimal found_entry
 fault_text (Database offset rule) = codes "database rule " ++ decimal rule ++ codes " at " ++ decimal offset
 fault_text (NoEvent event) = codes "no event " ++ event_name event
+fault_text (Trace offset) = codes "trace at " ++ decimal offset
 fault_text (Merging place fault) = codes "measurement " ++ decimal place ++ merge_text fault
 
 -- ---- the lines

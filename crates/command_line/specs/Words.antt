@@ -8,18 +8,18 @@ use Rattle.scope_types.specs.declared.event.Event.{Event}
 use Rattle.scope_types.specs.declared.event.Event.TheVariants.{Retired, Loads, Stores, Taken}
 use Rattle.scope_types.specs.declared.event.EventPeriod.{EventPeriod}
 use Rattle.scope_types.specs.Events.{event_name, event_number, retired_every}
-use Rattle.scope_types.specs.Limits.{most_runs, most_workers}
+use Rattle.scope_types.specs.Limits.{least_epoch, most_epoch, most_runs, most_workers}
 use Rattle.tree_types.specs.declared.content.Kind.{Kind}
 use Rattle.tree_types.specs.declared.content.Kind.TheVariants.{Exclusive, Frame, Inclusive}
 use Rattle.command_line.specs.declared.kind.FileKind.{FileKind}
 use Rattle.command_line.specs.declared.kind.FileKind.TheVariants as kinds
 use Rattle.command_line.specs.declared.request.Command.{Command}
 use Rattle.command_line.specs.declared.request.Command.TheVariants.{Profile, Run, Prof, Struct, View}
-use Rattle.command_line.specs.declared.request.Command.TheVariants.{Drill, Merge, Stats}
+use Rattle.command_line.specs.declared.request.Command.TheVariants.{Drill, Merge, Live, Trace, Timeline, Stats}
 use Rattle.command_line.specs.declared.request.ViewTable.{ViewTable}
 use Rattle.command_line.specs.declared.request.ViewTable.TheVariants.{Top, Callers, Flat}
 use Rattle.command_line.specs.Kind.{Wanted}
-use Rattle.command_line.specs.Request.{Request}
+use Rattle.command_line.specs.Request.{Request, most_cells, most_depth}
 
 -- ---- numbers and names
 
@@ -44,6 +44,11 @@ abbrev pub of_both : {A B X : Type 0} → (A → B → X) → Option A → Optio
 of_both make (Some first) (Some second) = Some (make first second)
 of_both make (Some first) None = None
 of_both make None second = None
+
+-- what is made of three values, where all are there
+abbrev pub of_three : {A B C X : Type 0} → (A → B → C → X) → Option A → Option B → Option C → Option X
+of_three make (Some first) second third = of_both (make first) second third
+of_three make None second third = None
 
 -- a file's name is any word that is not empty
 abbrev pub is_file_name : List ℕ → Bool
@@ -168,20 +173,16 @@ table_named word =
     else if is_word word (codes "flat") then Some Flat
     else None
 
--- a table of the database's first event
-abbrev pub view_first : ViewTable → Command
-view_first table = View table None
-
--- a table of this event
-abbrev pub view_event : ViewTable → Event → Command
-view_event table event = View table (Some event)
+-- the event of the words after a table or a kind of values: none where no word follows, which is the database's first
+abbrev pub event_in : List (List ℕ) → Option (Option Event)
+event_in [] = Some None
+event_in (event ∷ []) = option_map Some (event_named event)
+event_in words = None
 
 -- `view DB TABLE` and `view DB TABLE EVENT`, with the tables `top`, `callers` and `flat`
 abbrev pub view_words : List (List ℕ) → Option Request
-view_words (database ∷ table ∷ []) =
-    asked (option_map view_first (table_named table)) (wanted kinds.Database database ∷ []) None
-view_words (database ∷ table ∷ event ∷ []) =
-    asked (of_both view_event (table_named table) (event_named event)) (wanted kinds.Database database ∷ []) None
+view_words (database ∷ table ∷ last) =
+    asked (of_both View (table_named table) (event_in last)) (wanted kinds.Database database ∷ []) None
 view_words words = None
 
 -- the request of a drill, which has no files
@@ -207,6 +208,39 @@ merge_words (elf ∷ workers ∷ database ∷ names) =
     (wanted kinds.Program elf ∷ map (wanted kinds.Measurement) names) (Some database)
 merge_words words = None
 
+-- a number of samples of an epoch in a word
+abbrev pub epoch_in : List ℕ → Option ℕ
+epoch_in word = decimal_in least_epoch most_epoch word
+
+-- `live ELF INPUT SCHEDULE PERIOD WORKERS EPOCH DB`
+abbrev pub live_words : List (List ℕ) → Option Request
+live_words (elf ∷ input ∷ schedule ∷ period ∷ workers ∷ epoch ∷ database ∷ []) =
+    asked (of_three Live (periods_in period) (workers_in workers) (epoch_in epoch))
+    (wanted kinds.Program elf ∷ wanted kinds.Input input ∷ wanted kinds.Schedule schedule ∷ []) (Some database)
+live_words words = None
+
+-- `trace ELF INPUT SCHEDULE PERIOD TRACE`, where the period is a number
+abbrev pub trace_words : List (List ℕ) → Option Request
+trace_words (elf ∷ input ∷ schedule ∷ period ∷ trace ∷ []) =
+    asked (option_map Trace (period_in period))
+    (wanted kinds.Program elf ∷ wanted kinds.Input input ∷ wanted kinds.Schedule schedule ∷ []) (Some trace)
+trace_words words = None
+
+-- a depth in a word
+abbrev pub depth_in : List ℕ → Option ℕ
+depth_in word = decimal_in 1 most_depth word
+
+-- a number of cells in a word
+abbrev pub cells_in : List ℕ → Option ℕ
+cells_in word = decimal_in 1 most_cells word
+
+-- `timeline ELF TRACE DEPTH CELLS`
+abbrev pub timeline_words : List (List ℕ) → Option Request
+timeline_words (elf ∷ trace ∷ depth ∷ cells ∷ []) =
+    asked (of_both Timeline (depth_in depth) (cells_in cells))
+    (wanted kinds.Program elf ∷ wanted kinds.Trace trace ∷ []) None
+timeline_words words = None
+
 -- the kind of values of this name
 abbrev pub kind_named : List ℕ → Option Kind
 kind_named word =
@@ -215,20 +249,10 @@ kind_named word =
     else if is_word word (codes "inclusive") then Some Inclusive
     else None
 
--- the summary of values of the database's first event
-abbrev pub stats_first : Kind → Command
-stats_first kind = Stats kind None
-
--- the summary of values of this event
-abbrev pub stats_event : Kind → Event → Command
-stats_event kind event = Stats kind (Some event)
-
 -- `stats DB KIND` and `stats DB KIND EVENT`, with the kinds of values `exclusive`, `frame` and `inclusive`
 abbrev pub stats_words : List (List ℕ) → Option Request
-stats_words (database ∷ kind ∷ []) =
-    asked (option_map stats_first (kind_named kind)) (wanted kinds.Database database ∷ []) None
-stats_words (database ∷ kind ∷ event ∷ []) =
-    asked (of_both stats_event (kind_named kind) (event_named event)) (wanted kinds.Database database ∷ []) None
+stats_words (database ∷ kind ∷ last) =
+    asked (of_both Stats (kind_named kind) (event_in last)) (wanted kinds.Database database ∷ []) None
 stats_words words = None
 
 -- all commands with their words
@@ -237,6 +261,8 @@ usage_text =
     codes "usage: hpc profile ELF INPUT SCHEDULE PERIOD WORKERS DB | run ELF INPUT SCHEDULE PERIOD MEASURE"
     ++ codes " | prof ELF MEASURE WORKERS DB | struct ELF | view DB top|callers|flat [EVENT]"
     ++ codes " | drill NUMBER WORKERS | merge ELF WORKERS DB MEASURE .."
+    ++ codes " | live ELF INPUT SCHEDULE PERIOD WORKERS EPOCH DB"
+    ++ codes " | trace ELF INPUT SCHEDULE PERIOD TRACE | timeline ELF TRACE DEPTH CELLS"
     ++ codes " | stats DB exclusive|frame|inclusive [EVENT]\n"
 
 -- what the words ask for. `None`: the command line is invalid
@@ -250,5 +276,8 @@ request_of (word ∷ rest) =
     else if is_word word (codes "view") then view_words rest
     else if is_word word (codes "drill") then drill_words rest
     else if is_word word (codes "merge") then merge_words rest
+    else if is_word word (codes "live") then live_words rest
+    else if is_word word (codes "trace") then trace_words rest
+    else if is_word word (codes "timeline") then timeline_words rest
     else if is_word word (codes "stats") then stats_words rest
     else None

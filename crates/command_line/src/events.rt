@@ -12,7 +12,7 @@ use std::alloc::Global;
 const MOST_PERIOD: u32 = u32::MAX;
 
 /// A period.
-fn period_in(word: &[u8]) -> Option<u32>
+pub(crate) fn period_in(word: &[u8]) -> Option<u32>
     ensures number { result ≡ period_in word.now }
     ensures range { IfSome result (λ n. 0 < n) }
 {
@@ -23,16 +23,16 @@ fn period_in(word: &[u8]) -> Option<u32>
 pub(crate) fn event_named(name: &[u8]) -> Option<Event>
     ensures { result ≡ event_named name.now }
 {
-    if name == b"retired".as_slice() {
+    if name == Event::Retired.name() {
         return Some(Event::Retired);
     }
-    if name == b"loads".as_slice() {
+    if name == Event::Loads.name() {
         return Some(Event::Loads);
     }
-    if name == b"stores".as_slice() {
+    if name == Event::Stores.name() {
         return Some(Event::Stores);
     }
-    if name == b"taken".as_slice() {
+    if name == Event::Taken.name() {
         return Some(Event::Taken);
     }
     None
@@ -127,10 +127,7 @@ fn retired_every(alloc: Global, period: u32) -> Result<Listed<EventPeriod>, Memo
     ensures { IfOk result (λ events. events ≡ retired_every period) }
 {
     let mut events = Vec::new(alloc);
-    events.push(EventPeriod {
-        event: Event::Retired,
-        period,
-    })?;
+    events.push(EventPeriod::retired(period))?;
     Ok(Listed::of(events))
 }
 

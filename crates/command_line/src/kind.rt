@@ -9,6 +9,7 @@ pub enum FileKind {
     Schedule,
     Measurement,
     Database,
+    Trace,
 }
 
 /// What is so of a kind of file: its word in messages, and the most bytes that a file of it may have.
@@ -29,6 +30,7 @@ pub fn row_of(file: FileKind) -> KindRow
         FileKind::Schedule => ("schedule", 4_194_304),
         FileKind::Measurement => ("measurement", 33_554_432),
         FileKind::Database => ("database", 2_147_483_648),
+        FileKind::Trace => ("trace", 67_108_864),
     };
     KindRow { word, limit }
 }

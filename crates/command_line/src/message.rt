@@ -153,6 +153,7 @@ impl fmt::Display for InputFault {
                 let name = event_name(*event);
                 write!(f, "no event {name}")
             }
+            InputFault::Trace { offset } => write!(f, "trace at {offset}"),
             InputFault::Merging { place, fault } => write!(f, "measurement {place}{fault}"),
         }
     }

@@ -13,8 +13,9 @@ pub enum ViewTable {
 }
 
 /// A command with what its words say beside files: the events with their periods, the number of workers that merge, the
-/// table or the kind of values with its event (none: the database's first), the number of a guest, and how many runs
-/// there are, each with a measurement. Its files are in the request.
+/// table or the kind of values with its event (none: the database's first), the number of a guest, how many runs there
+/// are, each with a measurement, the most samples of an epoch, the period of a trace in retired instructions, and of a
+/// timeline the depth of its procedures, from 1, and the number of its cells. Its files are in the request.
 #[derive(Debug, Drop)]
 pub enum Command {
     Profile {
@@ -39,6 +40,18 @@ pub enum Command {
     Merge {
         workers: u32,
         runs: u32,
+    },
+    Live {
+        periods: Listed<EventPeriod>,
+        workers: u32,
+        epoch: u32,
+    },
+    Trace {
+        period: u32,
+    },
+    Timeline {
+        depth: u32,
+        cells: u32,
     },
     Stats {
         kind: Kind,

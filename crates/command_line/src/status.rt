@@ -64,8 +64,8 @@ pub enum InputFault {
     Measurement {
         offset: u64,
     },
-    /// The measurement is of another program: the length and the entry address that it keeps are not those that were
-    /// found in the program's file.
+    /// The measurement, or the trace, is of another program: the length and the entry address that it keeps are not
+    /// those that were found in the program's file.
     WrongProgram {
         kept_length: u32,
         kept_entry: u32,
@@ -80,6 +80,10 @@ pub enum InputFault {
     /// The database has not the event that was asked for.
     NoEvent {
         event: Event,
+    },
+    /// The trace breaks a rule, at an offset in its file.
+    Trace {
+        offset: u64,
     },
     /// One of several measurements is refused: its place among them, from 0, and why.
     Merging {

@@ -1,12 +1,12 @@
 -- How many samples a run has.
-use Rattle.std.proofs.Common.{◌≡◌, ℕ, zero, suc, ◌+◌, ◌*◌, ◌/◌, ◌%◌, ◌<◌, ◌≤◌, ◌==◌, ◌&&◌, ◌⊎◌, inl, inr, Bool, true, false, cond, List, [], ◌∷◌, ◌++◌, length, map, All, refl, ap, ◌∙◌, arith, append_assoc, mul-suc, mul-zero, mod-lt, mod-eq_of_lt, eqb-true}
+use Rattle.std.proofs.Common.{◌≡◌, ℕ, zero, suc, ◌+◌, ◌*◌, ◌%◌, ◌<◌, ◌≤◌, ◌==◌, ◌&&◌, inl, inr, Bool, true, false, cond, List, [], ◌∷◌, ◌++◌, length, map, All, refl, ap, ◌∙◌, arith, append_assoc, mul-suc, mul-zero, mod-eq_of_lt, eqb-true}
 use Rattle.std.specs.Prelude.{flat_map}
-use Rattle.std.proofs.Math.Nat.{add-mod_right, div-add-mod, mul-add, mul-add-mod_self_left}
-use Rattle.std.proofs.lemmas.Bool.{cases_lt, eq-eqb, ne_eqb}
+use Rattle.std.proofs.Math.Nat.{mul-add}
+use Rattle.std.proofs.lemmas.Bool.{cases_lt}
 use Rattle.std.proofs.lemmas.Bool.Decides.{eqb_tells}
 use Rattle.std.proofs.lemmas.List.{append-nil, length-append}
 use Rattle.std.proofs.lemmas.List.Elements.{All-head, All-tail}
-use Rattle.std.proofs.lemmas.List.Sums.{sum_by-append, sum_by-cons}
+use Rattle.std.proofs.lemmas.List.Sums.{sum_by-cons}
 use Rattle.elf_image.specs.Image.{ProgramImage}
 use Rattle.scope_types.specs.declared.event.Event.TheVariants.{Retired}
 use Rattle.scope_types.specs.declared.event.EventPeriod.{EventPeriod}
@@ -18,24 +18,10 @@ use Rattle.rv_run.specs.Run.{Instant, finished, next_instant, preceded, run_of, 
 use Rattle.rv_run.specs.Progress.{plus_one}
 use Rattle.rv_run.proofs.Ending.{instants_told}
 use Rattle.sample_clock.specs.declared.clock.Sample.{Sample}
-use Rattle.sample_clock.specs.Samples.{Paths, count_of, is_counted, none_earlier, placed, sample_of, samples, samples_at}
+use Rattle.sample_clock.specs.Samples.{Paths, none_earlier, placed, sample_of, samples, samples_at}
+use Rattle.sample_clock.proofs.RetiredSamples.{next-remainder, other-hart, own-hart, retired_of}
 
 -- ---- one instruction
-
--- the remainder goes up by one, or from the last one to 0
-next-remainder : (period r : ℕ) → 0 < period → ((r + 1) % period ≡ r % period + 1) ⊎ (((r + 1) % period ≡ 0) × (r % period + 1 ≡ period))
-next-remainder period r some =
-    let whole : period * (r / period) + r % period ≡ r = div-add-mod r period in
-    let below : r % period < period = mod-lt r some in
-    let next : (r + 1) % period ≡ (period * (r / period) + (r % period + 1)) % period = ap (λ (n : ℕ). n % period) (let e : r + 1 ≡ period * (r / period) + (r % period + 1) = omega (arith, whole) in e) in
-    let off : (period * (r / period) + (r % period + 1)) % period ≡ (r % period + 1) % period = mul-add-mod_self_left period (r / period) (r % period + 1) in
-    elim (cases_lt (r % period + 1) period) [
-      | inl less ↦ inl (next ∙ off ∙ mod-eq_of_lt less)
-      | inr past ↦
-          let last : r % period + 1 ≡ period = omega arith in
-          let none : (0 + period) % period ≡ 0 = add-mod_right 0 period ∙ mod-eq_of_lt some in
-          inr (next ∙ off ∙ ap (λ (n : ℕ). n % period) (let e : r % period + 1 ≡ 0 + period = omega arith in e) ∙ none, last)
-    ]
 
 -- a period for an instruction that is sampled, by whether it retires
 paid-step : (period r : ℕ) (retired : Bool) → 0 < period → cond (retired && ((r + 1) % period == 0)) period 0 + plus_one retired r % period ≤ r % period + 1
@@ -52,10 +38,6 @@ paid-step period r true some = elim (next-remainder period r some) [ inl up ↦ 
 
 -- ---- what is owed
 
--- how many instructions a hart retired of these
-abbrev retired_of : ℕ → List Instant → ℕ
-retired_of hart instants = count_of Retired hart instants
-
 -- those that the first harts retired since their last samples
 owed : ℕ → ℕ → List Instant → ℕ
 owed period zero instants = 0
@@ -68,33 +50,6 @@ nothing-owed period (suc n) some =
     let none : 0 % period ≡ 0 = mod-eq_of_lt some in
     let more = nothing-owed period n some in
     omega (arith, none, more)
-
--- 1 where a test is true
-abbrev once : Bool → ℕ
-once test = cond test 1 0
-
-one-more : (hart : ℕ) (before : List Instant) (i : Instant) → retired_of hart (before ++ i ∷ []) ≡ retired_of hart before + once (is_counted Retired hart i)
-one-more hart before i =
-    let all = sum_by-append (λ (j : Instant). once (is_counted Retired hart j)) before (i ∷ []) in
-    let one = sum_by-cons (λ (j : Instant). once (is_counted Retired hart j)) i [] in
-    let none : retired_of hart [] ≡ 0 = refl in
-    omega (arith, all, one, none)
-
-other-hart : (hart : ℕ) (before : List Instant) (i : Instant) → ¬ (i.moment.hart ≡ hart) → retired_of hart (before ++ i ∷ []) ≡ retired_of hart before
-other-hart hart before i apart =
-    let none : once (is_counted Retired hart i) ≡ 0 = ap (λ (t : Bool). once (t && (i.moment.retired && true))) (ne_eqb i.moment.hart hart apart) in
-    let all = one-more hart before i in
-    omega (arith, all, none)
-
-own-once : (b : Bool) (r : ℕ) → r + once (b && true) ≡ plus_one b r
-own-once true r = refl
-own-once false r = omega arith
-
-own-hart : (hart : ℕ) (before : List Instant) (i : Instant) → i.moment.hart ≡ hart → retired_of hart (before ++ i ∷ []) ≡ plus_one i.moment.retired (retired_of hart before)
-own-hart hart before i is =
-    one-more hart before i
-    ∙ ap (λ (t : Bool). retired_of hart before + once (t && (i.moment.retired && true))) (eq-eqb i.moment.hart hart is)
-    ∙ own-once i.moment.retired (retired_of hart before)
 
 others-owed : (period n : ℕ) (before : List Instant) (i : Instant) → n ≤ i.moment.hart → owed period n (before ++ i ∷ []) ≡ owed period n before
 unfolding owed

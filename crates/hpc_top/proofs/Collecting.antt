@@ -81,11 +81,11 @@ no_frames (column ∷ columns) =
     let rest = no_frames columns in
     omega (arith, first, rest)
 
-none_counted : (columns : ℕ) → frames_in (distinct columns []) ≡ 0
+pub none_counted : (columns : ℕ) → frames_in (distinct columns []) ≡ 0
 unfolding distinct
 none_counted columns = no_frames (range_with_len 0 columns)
 
-pub so_far_first : (path_of : Paths) (columns events : ℕ) (start : Sampling) (ccts : List (List Counted)) → start.met ≡ 0 → length start.events ≡ events → All (λ s. s.column < columns) (raws_to_come path_of start) → ccts ≡ distinct columns [] → samples_in ccts ≡ 0
+unfoldable pub so_far_first : (path_of : Paths) (columns events : ℕ) (start : Sampling) (ccts : List (List Counted)) → start.met ≡ 0 → length start.events ≡ events → All (λ s. s.column < columns) (raws_to_come path_of start) → ccts ≡ distinct columns [] → samples_in ccts ≡ 0
     → SoFar path_of columns events start start ccts
 so_far_first path_of columns events start ccts none same all are count =
     record {
@@ -110,7 +110,7 @@ next_raws path_of sample events old new same gives =
     ∙ ap (λ (es : List EventPeriod). column_raw events sample ∷ map (column_raw (length es)) (samples_to_come path_of new)) (sym gives.events)
 
 module _ (path_of : Paths) (columns events : ℕ) (start old new : Sampling) (ccts : List (List Counted)) (sofar : SoFar path_of columns events start old ccts) where
-  left : (sample : Sample) → GivesOne path_of sample old new → All (λ s. s.column < columns) (column_raw events sample ∷ raws_to_come path_of new)
+  pub left : (sample : Sample) → GivesOne path_of sample old new → All (λ s. s.column < columns) (column_raw events sample ∷ raws_to_come path_of new)
   left sample given = subst (All (λ (s : ColumnRaw). s.column < columns)) (next_raws path_of sample events old new sofar.same given) sofar.left_own
 
   pub so_far_column : (sample : Sample) → GivesOne path_of sample old new → length (distinct columns sofar.done) ≡ columns → (column_raw events sample).column < length ccts
@@ -134,22 +134,22 @@ module _ (path_of : Paths) (columns events : ℕ) (start old new : Sampling) (cc
 
   -- those that were counted, with this sample
   module _ (sample : Sample) (given : GivesOne path_of sample old new) (many : length (distinct columns sofar.done) ≡ columns) where
-    all_parts : raws_to_come path_of start ≡ (sofar.done ++ column_raw events sample ∷ []) ++ raws_to_come path_of new
+    pub all_parts : raws_to_come path_of start ≡ (sofar.done ++ column_raw events sample ∷ []) ++ raws_to_come path_of new
     all_parts = sofar.parts ∙ ap (λ (l : List ColumnRaw). sofar.done ++ l) (next_raws path_of sample events old new sofar.same given) ∙ sym (append_assoc sofar.done (column_raw events sample ∷ []) (raws_to_come path_of new))
 
-    now_long : new.met ≡ length (sofar.done ++ column_raw events sample ∷ [])
+    pub now_long : new.met ≡ length (sofar.done ++ column_raw events sample ∷ [])
     now_long = (let long = length-append sofar.done (column_raw events sample ∷ []) in let met = sofar.met in let one = given.given.met in omega (arith, long, met, one))
 
-    now_few : length (sofar.done ++ column_raw events sample ∷ []) ≤ most_samples
+    pub now_few : length (sofar.done ++ column_raw events sample ∷ []) ≤ most_samples
     now_few = (let long = now_long in let few = given.given.few in omega (arith, long, few))
 
-    long_ccts : length ccts ≡ columns
+    pub long_ccts : length ccts ≡ columns
     long_ccts = ap (λ (ts : List (List Counted)). length ts) sofar.counts ∙ many
 
     pub so_far_counts : ccts ≡ distinct (length ccts) sofar.done
     so_far_counts = sofar.counts ∙ ap (λ (n : ℕ). distinct n sofar.done) (sym long_ccts)
 
-    pub so_far_more : (ccts' : List (List Counted)) → (to_come new.machine).final ≡ (to_come old.machine).final → within_frames (distinct (length ccts) (sofar.done ++ column_raw events sample ∷ [])) ≡ Ok ccts' → samples_in ccts' ≡ samples_in ccts + 1
+    unfoldable pub so_far_more : (ccts' : List (List Counted)) → (to_come new.machine).final ≡ (to_come old.machine).final → within_frames (distinct (length ccts) (sofar.done ++ column_raw events sample ∷ [])) ≡ Ok ccts' → samples_in ccts' ≡ samples_in ccts + 1
         → SoFar path_of columns events start new ccts'
     so_far_more ccts' last within count =
         let tables : List (List Counted) = distinct columns (sofar.done ++ column_raw events sample ∷ []) in
@@ -205,9 +205,12 @@ module _ (path_of : Paths) (columns events : ℕ) (start old new : Sampling) (cc
       ap (λ (b : Bool). tested b TooMany (distinct columns (take most_samples (raws_to_come path_of start))) >>= λ _. within_samples (raws_to_come path_of start)) (le-ltb most_frames_in_all (frames_in (distinct columns (take most_samples (raws_to_come path_of start)))) few)
 
   -- none is left
+  pub done_all : IsOver path_of old new → raws_to_come path_of start ≡ sofar.done
+  done_all over = sofar.parts ∙ ap (λ (l : List Sample). sofar.done ++ map (column_raw (length old.events)) l) over.none ∙ append-nil sofar.done
+
   pub so_far_over : IsOver path_of old new → (to_come new.machine).final ≡ (to_come old.machine).final → AllCounted path_of columns ccts start new
   so_far_over over last =
-      let all : raws_to_come path_of start ≡ sofar.done = sofar.parts ∙ ap (λ (l : List Sample). sofar.done ++ map (column_raw (length old.events)) l) over.none ∙ append-nil sofar.done in
+      let all : raws_to_come path_of start ≡ sofar.done = done_all over in
       let front : take most_samples (raws_to_come path_of start) ≡ sofar.done = ap (take most_samples) all ∙ take_all most_samples sofar.done sofar.few in
       let long : length (raws_to_come path_of start) ≤ most_samples = (let same = ap (λ (l : List ColumnRaw). length l) all in let few = sofar.few in omega (arith, same, few)) in
       record {

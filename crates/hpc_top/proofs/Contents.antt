@@ -1,5 +1,5 @@
 -- The content of the paths of a tree.
-use Rattle.std.proofs.Common.{◌≡◌, ℕ, zero, suc, ◌<◌, ◌≤◌, true, List, [], ◌∷◌, length, count_by, slice_get, Some, refl, sym, ◌∙◌, ap, arith}
+use Rattle.std.proofs.Common.{◌≡◌, ℕ, zero, suc, ◌<◌, ◌≤◌, true, List, [], ◌∷◌, length, count_by, slice_get, All, Some, refl, sym, ◌∙◌, ap, subst, arith}
 use Rattle.std.proofs.lemmas.List.Sums.{sum_by-cons}
 use Rattle.scope_types.specs.declared.event.EventPeriod.{EventPeriod}
 use Rattle.scope_types.specs.Alike.{Alike}
@@ -10,10 +10,12 @@ use Rattle.scope_types.specs.Limits.{most_samples}
 use Rattle.tree_types.specs.declared.content.EventContent.{EventContent}
 use Rattle.tree_types.specs.Database.{event_content_of, names_used, node_list, period_at}
 use Rattle.tree_types.specs.Naming.{Naming}
+use Rattle.tree_types.specs.Nodes.{nodes, no_parent}
 use Rattle.tree_types.specs.Planes.{context_plane, profile_plane}
 use Rattle.tree_types.specs.Tree.{CountedTree, counts_in, paths_in}
+use Rattle.hpc_top.specs.private.Merging.{IsTreeOf}
 
-long_alike : (ps qs : List ColumnPath) → Alike ps qs → length ps ≡ length qs
+pub long_alike : (ps qs : List ColumnPath) → Alike ps qs → length ps ≡ length qs
 long_alike ps qs alike = sym (all_counted ps) ∙ alike.same (λ p. true) ∙ all_counted qs
   where
     all_counted : (xs : List ColumnPath) → count_by (λ p. true) xs ≡ length xs
@@ -41,3 +43,16 @@ pub there_within : (events : List EventPeriod) (place : ℕ) (event : EventPerio
 there_within [] place event is = absurd cc
 there_within (e ∷ events) zero event is = omega arith
 there_within (e ∷ events) (suc place) event is = (let less = there_within events place event is in omega (arith, less))
+
+-- what is known of a joined tree
+pub tree_of : (columns most : ℕ) (ps : List ColumnPath) (tree : CountedTree) → columns ≡ most → tree.columns ≡ columns → tree.nodes ≡ node_list ps → length (nodes ps) ≤ no_parent → Alike (paths_in tree) ps → length ps ≤ most_samples
+    → All (λ p. 0 < length p.path) ps × All (λ p. p.column < columns) ps → IsTreeOf most ps tree
+tree_of columns most ps tree same columns_are nodes_are few paths samples own = record {
+  columns = columns_are ∙ same;
+  nodes = nodes_are;
+  few = few;
+  paths = paths;
+  samples = samples;
+  some = own.0;
+  below = subst (λ (n : ℕ). All (λ (p : ColumnPath). p.column < n) ps) same own.1;
+}

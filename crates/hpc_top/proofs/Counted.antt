@@ -34,7 +34,7 @@ module _ (path_of : Paths) (events : List EventPeriod) (harts : ℕ) (start : Sa
   own_samples each own =
       subst (All (λ (s : ColumnRaw). s.column < run_columns events harts)) (sym all_to_come) (samples_below each path_of events harts (to_come start.machine) own)
 
-  abbrev measured_of : List ColumnRaw → Measured
+  abbrev pub measured_of : List ColumnRaw → Measured
   measured_of samples = record { events = events; harts = harts; samples = samples; final = (to_come start.machine).final }
 
   pub refused_count : (fail : Fail InputFault) → FailsBy fail (few_samples (run_columns events harts) (raws_to_come path_of start)) → FailsBy fail (measured_run path_of events harts (to_come start.machine))

@@ -5,6 +5,10 @@ pub mod Fetching
 pub mod Counted
 pub mod Products
 pub mod Collecting
+pub mod SamplesTraced
+pub mod TracedSoFar
+pub mod FinishedHarts
+pub mod HartSamples
 pub mod Contents
 pub mod FewEvents
 pub mod FewProfiles
@@ -13,6 +17,8 @@ pub mod EventLines
 pub mod Alone
 pub mod Drilling
 pub mod Addresses
+pub mod TracedRuns
+pub mod TracedLines
 pub mod EachOf
 pub mod SmallNumbers
 pub mod LineNumbers
@@ -22,6 +28,7 @@ pub mod LowImages
 pub mod FoundNumbers
 pub mod Scheduled
 pub mod Ran
+pub mod TracesStored
 pub mod Apart
 pub mod KeptRuns
 pub mod FewMeasured
@@ -36,3 +43,5 @@ pub mod StoredRuns
 pub mod FlatTables
 pub mod Reordered
 pub mod Refused
+pub mod JobFiles
+pub mod LiveRuns

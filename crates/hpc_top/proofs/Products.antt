@@ -41,7 +41,7 @@ use Rattle.hpc_top.specs.commands.Profile.{Profiled, product_of, profile_of, pro
 use Rattle.hpc_top.specs.private.Counting.{IsCount}
 use Rattle.hpc_top.specs.private.EventTexts.{lines_of_events, tables_in}
 use Rattle.hpc_top.specs.private.Merging.{HasTables, IsMergeOf, Merges, few_planned}
-use Rattle.hpc_top.specs.private.Profiling.{IsMadeBy, IsProfileOf, Profiles}
+use Rattle.hpc_top.specs.private.Profiling.{IsMadeBy, IsProfileOf, IsReportOf, Profiles}
 use Rattle.hpc_top.proofs.Contents.{period_there, there_within}
 use Rattle.hpc_top.proofs.EventTables.{tables_are}
 use Rattle.hpc_top.proofs.Faults.{fails_next}
@@ -199,13 +199,9 @@ module _ (scopes : ProgramScopes) (events : List EventPeriod) (m : Measured) (ru
 pub text_with : (c : EventContent) (text before : List ℕ) (lines wanted : List (List ℕ)) → text ≡ before ++ tables_in lines c → before ≡ [] → lines ≡ wanted → text ≡ tables_in wanted c
 text_with c text before lines wanted is none same = is ∙ (λ i. none i ++ tables_in (same i) c)
 
--- database and report of what was merged
-pub made_by : (m : Measured) (merged : Merged) (made : Made) → made.crew ≡ merged.crew → made.database ≡ events_spelling merged.content → {before : List ℕ} {lines : List (List ℕ)} → made.report ≡ before ++ tables_in lines merged.content → before ≡ lines_of m → lines ≡ lines_of_events m.events m.samples → IsMadeBy m merged made
-made_by m merged made crew database report text lines = record {
-  database = database;
-  report = report ∙ (λ i. text i ++ tables_in (lines i) merged.content);
-  crew = crew;
-}
+-- database and report of a content
+pub report_is : (m : Measured) (content : EventContent) (made : Product) → made.stored ≡ events_spelling content → {before : List ℕ} {lines : List (List ℕ)} → made.text ≡ before ++ tables_in lines content → before ≡ lines_of m → lines ≡ lines_of_events m.events m.samples → IsReportOf m content made
+report_is m content made database report text lines = record { database = database; report = report ∙ (λ i. text i ++ tables_in (lines i) content) }
 
 module _ (by : Merging) (contents : ContentsAlike) (tables : TablesAlike) (each : EventsAlike) where
   pub all_content : (a : Attributed) (m : Merged) → IsMergeOf by a m → IsTrue by.whole → m.content ≡ event_content a (call_paths_of a)
@@ -232,17 +228,17 @@ module _ (by : Merging) (contents : ContentsAlike) (tables : TablesAlike) (each 
       let m : Merged = record { content = r.merged.content; crew = made.crew } in
       let here : IsMergeOf by a m = subst (λ (c : Crew). IsMergeOf by a (record { content = r.merged.content; crew = c })) (sym parts.crew) is.merged in
       let lines : lines_of_events p.measured.events p.measured.samples ≡ lines_of_events a.events a.samples = (λ i. lines_of_events (sym is.same_events i) (sym is.same_samples i)) in
-      let report : made.report ≡ lines_of p.measured ++ tables_in (lines_of_events a.events a.samples) m.content = parts.report ∙ ap (λ (ls : List (List ℕ)). lines_of p.measured ++ tables_in ls m.content) lines in
+      let report : made.report ≡ lines_of p.measured ++ tables_in (lines_of_events a.events a.samples) m.content = parts.made_of.report ∙ ap (λ (ls : List (List ℕ)). lines_of p.measured ++ tables_in ls m.content) lines in
       record {
         gives = here.gives;
         plan = here.plan;
         product =
-            let s = parts.database ∙ ap events_spelling here.content in
+            let s = parts.made_of.database ∙ ap events_spelling here.content in
             let t = report ∙ ap (λ (text : List ℕ). lines_of p.measured ++ text) (tables_are a (named_paths made.crew.stripes) m.content here.tables) in
             λ i. record { stored = s i; text = t i };
         crew = here.crew;
         whole = λ all_merged.
-            let s = parts.database ∙ ap events_spelling (all_content a m here all_merged) in
+            let s = parts.made_of.database ∙ ap events_spelling (all_content a m here all_merged) in
             let t = report ∙ ap (λ (text : List ℕ). lines_of p.measured ++ text) (tables_are a (call_paths_of a) m.content (all_tables a m here all_merged)) in
             λ i. record { stored = s i; text = t i };
       }

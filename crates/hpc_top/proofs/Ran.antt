@@ -33,7 +33,7 @@ use Rattle.scope_types.specs.Events.{AreEvents}
 use Rattle.scope_types.specs.Limits.{most_frames_in_all, most_harts, most_scopes_in_all, most_samples}
 use Rattle.scope_types.specs.Raw.{HasFrames}
 use Rattle.command_line.specs.declared.status.InputFault.{InputFault}
-use Rattle.command_line.specs.declared.status.InputFault.TheVariants.{Entries, Lines, Measurement, Program, Structure, TooManyFrames, TooManySamples, TooManyScopes, WrongProgram}
+use Rattle.command_line.specs.declared.status.InputFault.TheVariants.{Entries, Lines, Measurement, Program, Structure, TooManyFrames, TooManySamples, TooManyScopes, Trace, WrongProgram}
 use Rattle.command_line.specs.Words.{most_period}
 use Rattle.hpc_top.specs.Attribution.{attributed}
 use Rattle.hpc_top.specs.Databases.{RunsStoreMeasurements}
@@ -84,7 +84,7 @@ run_made elf input schedule events kept is =
 -- ---- what a measurement may hold
 
 -- few samples are all samples
-few_are : (columns : ℕ) (all samples : List ColumnRaw) → few_samples columns all ≡ Ok samples → (all ≡ samples) × (length all ≤ most_samples) × (frames_in (distinct columns all) ≤ most_frames_in_all)
+pub few_are : (columns : ℕ) (all samples : List ColumnRaw) → few_samples columns all ≡ Ok samples → (all ≡ samples) × (length all ≤ most_samples) × (frames_in (distinct columns all) ≤ most_frames_in_all)
 few_are columns all samples is =
     let f = bind_ok (within_frames (distinct columns (take most_samples all))) (λ _. within_samples all) samples is in
     let frames = tested_ok (nat_lt most_frames_in_all (frames_in (distinct columns (take most_samples all)))) TooManyFrames (distinct columns (take most_samples all)) f.0 f.1 in
@@ -93,11 +93,18 @@ few_are columns all samples is =
     (many.1, few, subst (λ (l : List ColumnRaw). frames_in (distinct columns l) ≤ most_frames_in_all) (take_all most_samples all few) (at_most most_frames_in_all (frames_in (distinct columns (take most_samples all))) frames.0))
 
 -- what is measured of a run are its few samples
-measured_few : (path_of : Paths) (events : List EventPeriod) (harts : ℕ) (run : Run) (m : Measured) → measured_run path_of events harts run ≡ Ok m → (few_samples (run_columns events harts) (sampled path_of events run) ≡ Ok m.samples) × (m.harts ≡ harts) × (m.events ≡ events)
+pub measured_few : (path_of : Paths) (events : List EventPeriod) (harts : ℕ) (run : Run) (m : Measured) → measured_run path_of events harts run ≡ Ok m → (few_samples (run_columns events harts) (sampled path_of events run) ≡ Ok m.samples) × (m.harts ≡ harts) × (m.events ≡ events)
 unfolding measured_run
 measured_few path_of events harts run m is =
     let few = bind_ok (few_samples (run_columns events harts) (sampled path_of events run)) (λ samples. Ok (record { events = events; harts = harts; samples = samples; final = run.final })) m is in
     subst (λ (q : Measured). (few_samples (run_columns events harts) (sampled path_of events run) ≡ Ok q.samples) × (q.harts ≡ harts) × (q.events ≡ events)) (ok_same (record { events = events; harts = harts; samples = few.0; final = run.final }) m few.2) (few.1, refl, refl)
+
+-- and its machine is the one at the end
+pub measured_final : (path_of : Paths) (events : List EventPeriod) (harts : ℕ) (run : Run) (m : Measured) → measured_run path_of events harts run ≡ Ok m → m.final ≡ run.final
+unfolding measured_run
+measured_final path_of events harts run m is =
+    let few = bind_ok (few_samples (run_columns events harts) (sampled path_of events run)) (λ samples. Ok (record { events = events; harts = harts; samples = samples; final = run.final })) m is in
+    subst (λ (q : Measured). q.final ≡ run.final) (ok_same (record { events = events; harts = harts; samples = few.0; final = run.final }) m few.2) refl
 
 -- the harts of a run, and its samples: within the limits of a profile, each of a column of the run, with a path of 1 to
 -- 512 frames whose addresses have 32 bits
@@ -151,21 +158,22 @@ module _ (elf input schedule : List ℕ) (events : List EventPeriod) (m : Measur
         counts = counts;
       }
 
--- ---- what `prof` refuses in place of a measurement
+-- ---- what `prof` refuses in place of a measurement, and `timeline` in place of a trace
 
-abbrev IsOther : InputFault → Type 0
+abbrev pub IsOther : InputFault → Type 0
 IsOther (Measurement offset) = ⊥
+IsOther (Trace offset) = ⊥
 IsOther fault = Unit {0}
 
-other_then : {X Y : Type 0} (first : Result X InputFault) (next : X → Result Y InputFault) → IfErr first IsOther → ((x : X) → IfErr (next x) IsOther) → IfErr (first >>= next) IsOther
+pub other_then : {X Y : Type 0} (first : Result X InputFault) (next : X → Result Y InputFault) → IfErr first IsOther → ((x : X) → IfErr (next x) IsOther) → IfErr (first >>= next) IsOther
 other_then (Ok x) next a b = b x
 other_then (Err fault) next a b = a
 
-other_faulted : {X F : Type 0} (fault : F → InputFault) → ((f : F) → IsOther (fault f)) → (read : Result X F) → IfErr (faulted fault read) IsOther
+pub other_faulted : {X F : Type 0} (fault : F → InputFault) → ((f : F) → IsOther (fault f)) → (read : Result X F) → IfErr (faulted fault read) IsOther
 other_faulted fault is (Ok x) = tt
 other_faulted fault is (Err f) = is f
 
-other_scopes : (image : ProgramImage) → IfErr (program_scopes image) IsOther
+pub other_scopes : (image : ProgramImage) → IfErr (program_scopes image) IsOther
 unfolding program_scopes
 other_scopes image =
     other_then (debug_entries image) _ (other_faulted Entries (λ f. tt) (debug_info_of (debug_sections image))) (λ info.

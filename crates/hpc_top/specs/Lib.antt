@@ -14,5 +14,7 @@ pub mod Made
 pub mod Merged
 pub mod Apart
 pub mod Order
+pub mod LiveRuns
 pub mod Databases
+pub mod TracesOfRuns
 pub mod private

@@ -1,5 +1,5 @@
 -- A program and its schedule, read, or the refusal of their files.
-use Rattle.std.specs.Prelude.{ℕ, List, Result, codes}
+use Rattle.std.specs.Prelude.{ℕ, ◌==◌, ◌&&◌, Bool, List, length, Result, codes}
 use Rattle.elf_image.specs.Image.{ProgramImage, bytes_of_name, address_of_name}
 use Rattle.elf_image.specs.Reading.{image_of}
 use Rattle.cfi_table.specs.Frames.{FrameDescription}
@@ -9,6 +9,7 @@ use Rattle.eh_frame.specs.Descriptions.{descriptions_of_both}
 use Rattle.rv_run.specs.Schedule.{Scheduled, schedule_of}
 use Rattle.command_line.specs.declared.status.InputFault.{InputFault}
 use Rattle.command_line.specs.declared.status.InputFault.TheVariants.{Schedule, Program, Frames, EhFrames}
+use Rattle.command_line.specs.declared.status.InputFault.TheVariants.{WrongProgram}
 use Rattle.hpc_top.specs.Faulted.{faulted}
 
 -- the schedule, or its first bad line
@@ -18,6 +19,14 @@ scheduled bytes = faulted (λ fault. Schedule fault.line) (schedule_of bytes)
 -- the program, or the refusal of its file
 abbrev pub program : List ℕ → Result ProgramImage InputFault
 program elf = faulted Program (image_of elf)
+
+-- whether what was kept of a run is of this program: the length of its file and its entry are the same
+abbrev pub is_same_program : ProgramImage → ℕ → ℕ → Bool
+is_same_program image kept_length kept_entry = kept_length == length image.file && kept_entry == image.entry
+
+-- the refusal of what is of another program
+abbrev pub wrong_program : ProgramImage → ℕ → ℕ → InputFault
+wrong_program image kept_length kept_entry = WrongProgram kept_length kept_entry (length image.file) image.entry
 
 -- a fault of either section of call frame information
 abbrev pub frame_fault : SectionFault → InputFault

@@ -7,4 +7,6 @@ pub mod EventTexts
 pub mod Merging
 pub mod Products
 pub mod Profiling
+pub mod LiveRuns
 pub mod Refusing
+pub mod Tracing

@@ -9,7 +9,6 @@ ghost use Rattle.scope_types.specs.Limits.{most_runs};
 ghost use Rattle.tree_types.specs.OfContent.{IsEventProfile, IsProfile, content_of_event, content_table};
 ghost use Rattle.hpc_top.specs.private.EventTexts.{tables_in};
 
-use crate::events::is_retired_alone;
 use crate::table::report;
 use prof_bytes::{Memory, Text};
 use prof_db::{
@@ -17,6 +16,7 @@ use prof_db::{
     write_events,
 };
 use rayon::join;
+use scope_types::is_retired_alone;
 use std::alloc::Global;
 use std::thread::Threads;
 use tree_types::{Content, EventContent, one_event_is_the_whole};

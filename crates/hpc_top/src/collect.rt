@@ -1,7 +1,7 @@
 //! The samples of a run, counted column by column by their raw paths.
 ghost use Rattle.std.specs.Prelude.{◌≡◌, ◌+◌, ◌*◌, ◌^◌, ◌<◌, ◌++◌, ◌∷◌, [], All, IfOk, List, length, OnOk};
 ghost use Rattle.prof_bytes.specs.Outcome.{Gives};
-ghost use Rattle.rv_run.specs.Progress.{to_come};
+ghost use Rattle.rv_run.specs.Progress.{IsFresh, to_come};
 ghost use Rattle.rv_run.specs.State.{first_state};
 ghost use Rattle.scope_types.specs.Distinct.{ColumnRaw, distinct, samples_in};
 ghost use Rattle.scope_types.specs.Events.{AreEvents};
@@ -29,6 +29,7 @@ pub fn start_samples<'a>(
 ) -> Result<Samples<'a>, Memory>
     requires { AreEvents events.now }
     ensures start { IfOk result (λ samples. IsStart events.now samples) }
+    ensures fresh { IfOk result (λ samples. IsFresh samples.machine.state) }
     ensures machine { IfOk result (λ samples. samples.machine
         ≡ record { state = first_state image.now schedule.harts input.now; left = schedule.slices }) }
     ensures harts { IfOk result (λ samples. schedule.harts ≡ length (to_come samples.machine).final.harts) }
@@ -59,7 +60,7 @@ fn count_sample(ccts: &mut Ccts, events: u32, sample: &Sample) -> Result<(), Fai
 }
 
 /// The next sample; `None` where the run has ended.
-fn next_sample<U: Unwind>(
+pub fn next_sample<U: Unwind>(
     samples: &mut Samples<'_>,
     unwinder: &U,
 ) -> Result<Option<Sample>, Fail<InputFault>>

@@ -5,12 +5,15 @@ ghost use Rattle.hpc_top.specs.commands.{makes};
 ghost use Rattle.hpc_top.specs.private.Steps.{AreWithin};
 
 pub mod drill;
+pub mod live;
 pub mod merge;
 pub mod prof;
 pub mod profile;
 pub mod run;
 pub mod stats;
 pub mod structure;
+pub mod timeline;
+pub mod trace;
 pub mod view;
 
 use crate::product::Product;
@@ -40,6 +43,13 @@ pub fn make<R: Threads + Sync + AllocGlobal, G: Gate>(
         Command::View { table, event } => view::make(rt.alloc(), *table, *event, texts),
         Command::Drill { number, workers } => drill::make(rt, *number, *workers, texts, gate),
         Command::Merge { workers, .. } => merge::make(rt, *workers, texts, gate),
+        Command::Live {
+            periods,
+            workers,
+            epoch,
+        } => live::make(rt, periods.items(), *workers, *epoch, texts, gate),
+        Command::Trace { period } => trace::make(rt.alloc(), *period, texts),
+        Command::Timeline { depth, cells } => timeline::make(rt.alloc(), *depth, *cells, texts),
         Command::Stats { kind, event } => stats::make(rt.alloc(), *kind, *event, texts),
     }
 }

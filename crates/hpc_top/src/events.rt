@@ -2,36 +2,16 @@
 ghost use Rattle.std.specs.Prelude.{◌≡◌, ◌<◌, ◌^◌, ◌∷◌, [], true, IfOk, List, length, map};
 ghost use Rattle.run_report.specs.Report.{event_line, samples_by_event};
 ghost use Rattle.scope_types.specs.Distinct.{ColumnRaw, distinct, samples_in};
-ghost use Rattle.scope_types.specs.Events.{AreEvents, is_retired_alone, periods_of, retired_every};
+ghost use Rattle.scope_types.specs.Events.{AreEvents, is_retired_alone, periods_of};
 ghost use Rattle.std.specs.List.{enumerate_from};
 ghost use Rattle.hpc_top.specs.private.EventTexts.{counted_line, lines_of_events};
 
 use crate::product::no_text;
 use prof_bytes::{Memory, Text};
 use run_report::{event_samples, put_event_line};
-use scope_types::{Event, EventPeriod};
+use scope_types::{EventPeriod, is_retired_alone};
 use std::alloc::Global;
 use thread_cct::Ccts;
-
-/// Whether retired instructions are the only event.
-pub fn is_retired_alone(events: &[EventPeriod]) -> bool
-    ensures { result ≡ is_retired_alone events.now }
-{
-    match events {
-        [only] => only.event.number() == 0,
-        _ => false,
-    }
-}
-
-/// Retired instructions with their period, which are an event.
-pub fn retired_every(period: u32) -> EventPeriod
-    ensures { result ∷ [] ≡ retired_every period }
-{
-    EventPeriod {
-        event: Event::Retired,
-        period,
-    }
-}
 
 /// Events of their own.
 pub fn copied_events(alloc: Global, events: &[EventPeriod]) -> Result<Vec<EventPeriod>, Memory>

@@ -1,4 +1,5 @@
 ghost use Rattle.hpc_top.specs.Apart.{MergeOfOne, OneIsProf, RunThenProf};
+ghost use Rattle.hpc_top.specs.LiveRuns.{LiveIsProfile};
 ghost use Rattle.hpc_top.specs.Order.{OrderRenumbers};
 
 use cfi_unwind::paths_have_frames;
@@ -48,3 +49,9 @@ pub fn order_renumbers_columns()
     counts_decide();
     event_paths_are_paths();
 }
+
+/// What `profile` makes of its files, `live` makes of them, and what one refuses, the other refuses, whatever the length
+/// of an epoch and the numbers of workers.
+pub fn live_is_profile()
+    ensures { LiveIsProfile }
+{}

@@ -2,6 +2,7 @@
 ghost use Rattle.std.specs.Prelude.{◌≡◌, ◌<◌, ◌≤◌, ℕ, All, IfOk, List, length, sum};
 ghost use Rattle.prof_bytes.specs.Outcome.{Gives};
 ghost use Rattle.scope_find.specs.Found.{found_at, naming_of};
+ghost use Rattle.scope_types.specs.CallPaths.{ColumnPath};
 ghost use Rattle.scope_types.specs.Columns.{columns_of, paths_of_event};
 ghost use Rattle.scope_types.specs.Distinct.{ColumnRaw, distinct};
 ghost use Rattle.scope_types.specs.Events.{AreEvents};
@@ -15,7 +16,7 @@ ghost use Rattle.tree_types.specs.OfContent.{IsEventProfile, content_of_event, c
 ghost use Rattle.tree_types.specs.TopDown.{top_down};
 ghost use Rattle.hpc_top.specs.Attribution.{attributed};
 ghost use Rattle.hpc_top.specs.Merged.{merging};
-ghost use Rattle.hpc_top.specs.private.Merging.{AreRuns, Merges, few_planned};
+ghost use Rattle.hpc_top.specs.private.Merging.{AreRuns, IsTreeOf, Merges, few_planned};
 
 use crate::events::{copied_events, periods_of};
 use command_line::InputFault;
@@ -32,7 +33,7 @@ use stripe_table::StripeSet;
 use thread_cct::{Ccts, Plan, plans_can_be_merged};
 use tree_join::{join_stripes, stripes_hold_the_samples, stripes_hold_their_pieces};
 use tree_types::{
-    EventContent, event_contents_have_parts, event_paths_make_a_profile, trees_hold_paths,
+    EventContent, Tree, event_contents_have_parts, event_paths_make_a_profile, trees_hold_paths,
 };
 
 /// How samples are merged: the crews, the number of workers, the events with their periods, and the harts of each run.
@@ -76,6 +77,50 @@ fn copied_runs(alloc: Global, runs: &[u32]) -> Result<Vec<u32>, Memory>
     Ok(copy)
 }
 
+/// The content of the call paths that end in a tree.
+pub fn content_of_tree<R: Threads + Sync>(
+    rt: &R,
+    alloc: Global,
+    events: &[EventPeriod],
+    runs: &[u32],
+    expander: &Expander<'_>,
+    tree: Tree,
+) -> Result<EventContent, Memory>
+    requires events { AreEvents events.now }
+    requires runs { AreRuns runs.now }
+    requires paths { (ps : List ColumnPath) × IsTreeOf (columns_of (length events.now) runs.now) ps tree }
+    ensures content { (ps : List ColumnPath) → IsTreeOf (columns_of (length events.now) runs.now) ps tree
+        → IfOk result (λ content. content ≡ event_content_of events.now runs.now (naming_of expander.now) ps) }
+    ensures profile { IfOk result (λ content. IsEventProfile content) }
+    ensures runs { IfOk result (λ content. content.runs ≡ runs.now) }
+    ensures events { IfOk result (λ content. content.events ≡ events.now) }
+    ensures tables { (ps : List ColumnPath) → IsTreeOf (columns_of (length events.now) runs.now) ps tree
+        → (place : ℕ) → place < length events.now → IfOk result (λ content.
+        content_table (content_of_event content place)
+        ≡ top_down (period_at events.now place) (sum runs.now) (naming_of expander.now)
+        (paths_of_event (length events.now) place ps)) }
+{
+    event_contents_have_parts();
+    event_paths_make_a_profile();
+    trees_hold_paths();
+    let own_events = copied_events(alloc, events)?;
+    let own_runs = copied_runs(alloc, runs)?;
+    let names = expander.names(&tree)?;
+    let periods = periods_of(alloc, events)?;
+    let values = sums(alloc, &tree, periods.as_slice())?;
+    let planes = both_planes(rt, alloc, &values)?;
+    drop(values);
+    let (profiles, contexts) = planes;
+    Ok(EventContent {
+        events: Listed::of(own_events),
+        runs: Listed::of(own_runs),
+        names,
+        nodes: Listed::of(tree.into_nodes()),
+        profiles,
+        contexts,
+    })
+}
+
 /// The content of the pieces that the stripes name.
 fn content_named<R: Threads + Sync>(
     rt: &R,
@@ -100,26 +145,8 @@ fn content_named<R: Threads + Sync>(
         ≡ top_down (period_at events.now place) (sum runs.now) (naming_of expander.now)
         (paths_of_event (length events.now) place (named_paths stripes.now))) }
 {
-    event_contents_have_parts();
-    event_paths_make_a_profile();
-    trees_hold_paths();
-    let own_events = copied_events(alloc, events)?;
-    let own_runs = copied_runs(alloc, runs)?;
     let tree = join_stripes(alloc, stripes, columns)?;
-    let names = expander.names(&tree)?;
-    let periods = periods_of(alloc, events)?;
-    let values = sums(alloc, &tree, periods.as_slice())?;
-    let planes = both_planes(rt, alloc, &values)?;
-    drop(values);
-    let (profiles, contexts) = planes;
-    Ok(EventContent {
-        events: Listed::of(own_events),
-        runs: Listed::of(own_runs),
-        names,
-        nodes: Listed::of(tree.into_nodes()),
-        profiles,
-        contexts,
-    })
+    content_of_tree(rt, alloc, events, runs, expander, tree)
 }
 
 /// What is merged of counted samples, unless these have too many scopes.

@@ -1,15 +1,15 @@
 //! A run that is profiled: its samples counted and merged, before `profile` makes its report of it, or `drill` its lines.
-ghost use Rattle.std.specs.Prelude.{◌≡◌, ◌≤◌, [], ◌∷◌, Ok};
+ghost use Rattle.std.specs.Prelude.{◌≡◌, ◌≤◌, [], ◌∷◌};
 ghost use Rattle.cfi_table.specs.Frames.{descriptions};
+ghost use Rattle.prof_bytes.specs.Outcome.{Gives};
 ghost use Rattle.scope_types.specs.Events.{AreEvents};
 ghost use Rattle.scope_types.specs.Limits.{most_workers};
 ghost use Rattle.hpc_top.specs.Job.{IsJob};
 ghost use Rattle.hpc_top.specs.Measured.{Measured};
 ghost use Rattle.hpc_top.specs.Merged.{merging};
-ghost use Rattle.hpc_top.specs.Program.{program, scheduled};
 ghost use Rattle.hpc_top.specs.commands.Profile.{profiled, profiled_of, profiled_program};
 ghost use Rattle.hpc_top.specs.private.Counting.{IsCount};
-ghost use Rattle.hpc_top.specs.private.Profiling.{Profiles};
+ghost use Rattle.hpc_top.specs.private.Profiling.{Profiles, files_from, files_in, files_of};
 
 use crate::commands::profile::Job;
 use crate::counting::{CountedRun, count_run};
@@ -33,6 +33,16 @@ use std::thread::Threads;
 pub struct ProfiledRun<'a> {
     pub run: CountedRun<'a>,
     pub merged: Merged,
+}
+
+/// The files of a job but its input, read.
+#[derive(Drop)]
+pub struct ReadJob<'a> {
+    pub schedule: Schedule,
+    pub image: Image<'a>,
+    pub table: FrameTable,
+    pub lines: LineTable<'a>,
+    pub structure: Structure<'a>,
 }
 
 /// What is merged of a run's samples, unless these have too many scopes.
@@ -106,33 +116,37 @@ fn profile_program<'a, R: Threads + Sync, C: Crews>(
     merge_scopes(rt, alloc, job, crews, image, lines, structure, counted)
 }
 
-/// What is profiled of a job whose schedule and program were read, or the first refusal of its call frame information,
-/// its debug information or its run.
-#[tactic(auto, unfolding(crate::specs::commands::Profile::profiled_of))]
-fn profile_image<'a, R: Threads + Sync, C: Crews>(
-    rt: &R,
+/// The files of a job whose schedule and program were read, or the first refusal of its call frame information or its
+/// debug information.
+fn read_image<'a>(
     alloc: Global,
-    job: &Job<'_>,
-    crews: &C,
     schedule: Schedule,
-    image: &Image<'a>,
-) -> Result<ProfiledRun<'a>, Fail<InputFault>>
-    requires schedule { scheduled job.now.schedule.now ≡ Ok schedule }
-    requires program { program job.now.elf.now ≡ Ok image.now }
-    requires job { IsJob job.now }
-    ensures { Profiles (merging (C.gives crews.now) (C.whole crews.now) job.now.workers) job.now.periods.now
-        result
-        (profiled_of job.now.elf.now job.now.input.now job.now.schedule.now job.now.periods.now) }
+    image: Image<'a>,
+) -> Result<ReadJob<'a>, Fail<InputFault>>
+    ensures { Gives files_in result (files_from schedule image.entry) }
 {
-    let table = frames_of(alloc, image)?;
-    let (lines, structure) = scopes_of(alloc, image)?;
-    profile_program(
-        rt, alloc, job, crews, schedule, image, &table, &lines, &structure,
-    )
+    let table = frames_of(alloc, &image)?;
+    let (lines, structure) = scopes_of(alloc, &image)?;
+    Ok(ReadJob {
+        schedule,
+        image,
+        table,
+        lines,
+        structure,
+    })
+}
+
+/// The files of a job, or their first refusal.
+pub fn read_job<'a>(alloc: Global, job: &Job<'a>) -> Result<ReadJob<'a>, Fail<InputFault>>
+    requires { IsJob job.now }
+    ensures { Gives files_in result (files_of job.now.elf.now job.now.schedule.now) }
+{
+    let schedule = schedule_of(alloc, job.schedule)?;
+    let image = program_of(alloc, job.elf)?;
+    read_image(alloc, schedule, image)
 }
 
 /// What is profiled of a job, or the first refusal of its files.
-#[tactic(auto, unfolding(crate::specs::commands::Profile::profiled_of))]
 pub fn profile_run<'a, R: Threads + Sync, C: Crews>(
     rt: &R,
     alloc: Global,
@@ -144,7 +158,15 @@ pub fn profile_run<'a, R: Threads + Sync, C: Crews>(
         result
         (profiled_of job.now.elf.now job.now.input.now job.now.schedule.now job.now.periods.now) }
 {
-    let schedule = schedule_of(alloc, job.schedule)?;
-    let image = program_of(alloc, job.elf)?;
-    profile_image(rt, alloc, job, crews, schedule, &image)
+    let read = read_job(alloc, job)?;
+    let ReadJob {
+        schedule,
+        image,
+        table,
+        lines,
+        structure,
+    } = read;
+    profile_program(
+        rt, alloc, job, crews, schedule, &image, &table, &lines, &structure,
+    )
 }

@@ -2,7 +2,8 @@
 ghost use Rattle.std.specs.Prelude.{◌≡◌, ◌≤◌, ◌^◌, length};
 ghost use Rattle.prof_bytes.specs.Outcome.{Gives};
 ghost use Rattle.cfi_table.specs.Frames.{descriptions};
-ghost use Rattle.hpc_top.specs.Program.{frame_fault, frame_information, program, scheduled};
+ghost use Rattle.hpc_top.specs.Program.{frame_fault, frame_information, is_same_program, program, scheduled};
+ghost use Rattle.hpc_top.specs.Program.{wrong_program};
 
 use crate::refusal::as_input;
 use cfi_table::FrameTable;
@@ -32,6 +33,25 @@ pub fn program_of(alloc: Global, elf: &[u8]) -> Result<Image<'_>, Fail<InputFaul
     ensures { Gives (λ image. image) result (program elf.now) }
 {
     as_input(read_image(alloc, elf), |fault| InputFault::Program(fault))
+}
+
+/// Whether what was kept of a run is of this program: the length of its file and its entry are the same.
+pub fn is_same_program(image: &Image<'_>, kept_length: u32, kept_entry: u32) -> bool
+    ensures { result ≡ is_same_program image.now kept_length kept_entry }
+{
+    kept_length == image.length() && kept_entry == image.entry()
+}
+
+/// The refusal of what is of another program.
+pub fn wrong_program(image: &Image<'_>, kept_length: u32, kept_entry: u32) -> InputFault
+    ensures { result ≡ wrong_program image.now kept_length kept_entry }
+{
+    InputFault::WrongProgram {
+        kept_length,
+        kept_entry,
+        found_length: image.length(),
+        found_entry: image.entry(),
+    }
 }
 
 /// A fault of either section of call frame information.

@@ -151,10 +151,10 @@ fn take_first(runs: &mut Vec<(EventHead, Ccts)>) -> Ccts
 }
 
 /// A run's columns after those of the runs before it, unless there are too many frames.
-fn append_run(all: &mut Ccts, run: &Ccts) -> Result<(), Fail<InputFault>>
-    requires columns { length all.old + length run.now < 2 ^ 32 }
-    requires few { samples_in all.old + samples_in run.now ≤ most_samples }
-    ensures { Gives (λ done. all.new) result (within_frames (all.old ++ run.now)) }
+fn append_run(all: &mut Ccts, run: Ccts) -> Result<(), Fail<InputFault>>
+    requires columns { length all.old + length run < 2 ^ 32 }
+    requires few { samples_in all.old + samples_in run ≤ most_samples }
+    ensures { Gives (λ done. all.new) result (within_frames (all.old ++ run)) }
 {
     match all.append(run) {
         Ok(()) => Ok(()),
@@ -164,7 +164,7 @@ fn append_run(all: &mut Ccts, run: &Ccts) -> Result<(), Fail<InputFault>>
 }
 
 /// The counted paths of all runs, the columns of each after those of the runs before it, unless there are too many
-/// frames. Each run is let go as soon as its columns are there.
+/// frames. The tables of each run are moved, and no path is copied.
 pub fn joined(alloc: Global, runs: Vec<(EventHead, Ccts)>) -> Result<Ccts, Fail<InputFault>>
     requires few_runs { length runs.items ≤ most_runs }
     requires measured { All (λ run. IsEventMeasurable run.0 run.1) runs.items }
@@ -175,7 +175,7 @@ pub fn joined(alloc: Global, runs: Vec<(EventHead, Ccts)>) -> Result<Ccts, Fail<
     let mut all = Ccts::start(alloc, 0)?;
     while !left.is_empty() {
         let ccts = take_first(&mut left);
-        append_run(&mut all, &ccts)?;
+        append_run(&mut all, ccts)?;
     }
     Ok(all)
 }

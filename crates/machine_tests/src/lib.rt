@@ -1,9 +1,9 @@
-//! Tests of the machine: the instruction table, steps of one hart, its memory, schedules, runs, and samples; and of
-//! the guests that are made from numbers.
+//! Tests of the machine: the instruction table, steps of one hart, its memory, schedules, runs, and samples; of runs
+//! that are merged while they go on; and of the guests that are made from numbers.
 //!
 //! It has no code of its own: a crate with tests is proved twice, and these prove none of the machine
 //! again. The expected values come from the GNU assembler, from qemu, and from the manual. Below stand
-//! the crates of the machine.
+//! the crates of the machine, and `live_merge`.
 #![tactic(auto)]
 
 #[cfg(test)]
@@ -14,6 +14,8 @@ mod guest_files;
 mod guests;
 #[cfg(test)]
 mod instructions;
+#[cfg(test)]
+mod live;
 #[cfg(test)]
 mod memory;
 #[cfg(test)]

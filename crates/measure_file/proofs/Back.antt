@@ -14,8 +14,9 @@ use Rattle.scope_types.specs.declared.frame.Frame.{Frame}
 use Rattle.measure_file.specs.declared.fault.MeasureFault.{MeasureFault}
 use Rattle.measure_file.specs.Fields.{starting_at, word_by, word_from}
 use Rattle.measure_file.specs.Measurable.{HasWord}
-use Rattle.measure_file.specs.Reading.{measured_frame_from, is_count, is_end_number, is_length, path_end}
-use Rattle.measure_file.specs.Spelling.{end_number, frame_bytes}
+use Rattle.measure_file.specs.Reading.{measured_frame_from, is_count, is_end_number, is_length}
+use Rattle.scope_types.specs.Ends.{end_number, end_of_number}
+use Rattle.measure_file.specs.Spelling.{frame_bytes}
 
 -- ---- words
 
@@ -71,7 +72,7 @@ length_rule before n e =
     let first = and_parts _ _ parts.0 in
     (leb-true 1 n first.0, leb-true n most_frames_of_path first.1, leb-true (before + n) most_frames_in_all parts.1)
 
-pub end_again : (n : ℕ) → is_end_number n ≡ true → end_number (path_end n) ≡ n
+pub end_again : (n : ℕ) → is_end_number n ≡ true → end_number (end_of_number n) ≡ n
 end_again zero e = refl
 end_again (suc zero) e = refl
 end_again (suc (suc zero)) e = refl

@@ -11,8 +11,9 @@ use Rattle.thread_cct.specs.Adding.{has_path, of_column, with_path}
 use Rattle.prof_bytes.specs.Repeated.{adding, times}
 use Rattle.measure_file.specs.Fields.{fault_at}
 use Rattle.measure_file.specs.Measurable.{AreMeasured, HasWord, IsCounted}
-use Rattle.measure_file.specs.Reading.{measured_frame_from, column_from, is_count, is_end_number, is_length, new_path, path_end, measured_path_from}
-use Rattle.measure_file.specs.Spelling.{end_number, frame_bytes, path_bytes, column_bytes}
+use Rattle.measure_file.specs.Reading.{measured_frame_from, column_from, is_count, is_end_number, is_length, new_path, measured_path_from}
+use Rattle.scope_types.specs.Ends.{end_number, end_of_number}
+use Rattle.measure_file.specs.Spelling.{frame_bytes, path_bytes, column_bytes}
 use Rattle.prof_bytes.proofs.Outcomes.{bind_ok, guard_ok, ok_same}
 use Rattle.prof_bytes.proofs.Took.{Took, bytes_on, given, took_both, took_none}
 use Rattle.measure_file.proofs.Back.{count_rule, end_again, frames_back, length_rule, ruled_behind, word_behind}
@@ -36,7 +37,7 @@ path_back done rest own at next new bytes are is =
     let f = bind_ok (times (adding measured_frame_from) d.value 0 [] d.next) _ _ d.is in
     let frames : List Frame = f.0.0 in
     let read = frames_back d.value frames d.next f.0.1 d.bytes f.1 in
-    let c : Counted = record { path = record { end = path_end b.value; frames = frames }; count = a.value } in
+    let c : Counted = record { path = record { end = end_of_number b.value; frames = frames }; count = a.value } in
     let p = bind_ok (new_path column d.next.offset c tables) _ _ f.2 in
     let g = guard_ok (has_path c.path (of_column tables column)) (fault_at d.next.offset) (Ok (with_path tables column c)) p.0 p.1 in
     let own_new : has_path c.path own ≡ false = subst (λ (cs : List Counted). has_path c.path cs ≡ false) (own_of done rest own) g.0 in

@@ -24,8 +24,9 @@ use Rattle.thread_cct.proofs.Paths.{paths_below}
 use Rattle.prof_bytes.specs.Repeated.{adding, times}
 use Rattle.measure_file.specs.Fields.{fault_at, starting_at, word_from, word_by}
 use Rattle.measure_file.specs.Measurable.{AreDistinct, HasWord, IsCounted}
-use Rattle.measure_file.specs.Reading.{measured_frame_from, column_from, is_count, is_end_number, is_length, path_end, new_path, measured_path_from}
-use Rattle.measure_file.specs.Spelling.{end_number, frame_bytes, path_bytes, column_bytes}
+use Rattle.measure_file.specs.Reading.{measured_frame_from, column_from, is_count, is_end_number, is_length, new_path, measured_path_from}
+use Rattle.scope_types.specs.Ends.{end_number, end_of_number}
+use Rattle.measure_file.specs.Spelling.{frame_bytes, path_bytes, column_bytes}
 use Rattle.measure_file.proofs.Seams.{Tables, count_of, frames_of, own_of, own_put, own_sum, sum_more}
 use Rattle.measure_file.proofs.Sums.{no_sums}
 
@@ -52,7 +53,7 @@ frames_forth frames at rest words left =
 
 -- ---- paths
 
-end_back : (end : End) → path_end (end_number end) ≡ end
+end_back : (end : End) → end_of_number (end_number end) ≡ end
 end_back Whole = refl
 end_back (Partial NoFde) = refl
 end_back (Partial NoCfa) = refl
@@ -69,7 +70,7 @@ end_few (Partial Unmapped) = omega arith
 end_few (Partial Depth) = omega arith
 
 put_forth : (done rest : Tables) (own : List Counted) (c : Counted) (offset : ℕ) → has_path c.path own ≡ false
-    → new_path (length done) offset (record { path = record { end = path_end (end_number c.path.end); frames = c.path.frames }; count = c.count }) (done ++ own ∷ rest) ≡ Ok (done ++ (own ++ c ∷ []) ∷ rest)
+    → new_path (length done) offset (record { path = record { end = end_of_number (end_number c.path.end); frames = c.path.frames }; count = c.count }) (done ++ own ∷ rest) ≡ Ok (done ++ (own ++ c ∷ []) ∷ rest)
 put_forth done rest own c offset new =
     let tables : Tables = done ++ own ∷ rest in
     let column : ℕ = length done in

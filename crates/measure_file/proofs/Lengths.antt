@@ -14,7 +14,8 @@ use Rattle.measure_file.specs.declared.head.EventHead.{EventHead}
 use Rattle.measure_file.specs.declared.head.MeasureVersion.{MeasureVersion}
 use Rattle.measure_file.specs.declared.head.MeasureVersion.TheVariants.{One, Two}
 use Rattle.scope_types.specs.Events.{event_words}
-use Rattle.measure_file.specs.Spelling.{end_number, frame_bytes, path_bytes, column_bytes, events_words, head_bytes, measure_magic, measure_version, event_measurement_spelling, measurement_limit}
+use Rattle.scope_types.specs.Ends.{end_number}
+use Rattle.measure_file.specs.Spelling.{frame_bytes, path_bytes, column_bytes, events_words, head_bytes, measure_magic, measure_version, event_measurement_spelling, measurement_limit}
 use Rattle.prof_bytes.specs.Number.{word, words}
 
 abbrev HasCount : Counted → Type 0

@@ -9,9 +9,7 @@ use Rattle.prof_bytes.specs.Outcome.{◌>>=◌}
 use Rattle.prof_bytes.specs.Reading.{At}
 use Rattle.scope_types.specs.declared.frame.Counted.{Counted}
 use Rattle.scope_types.specs.declared.frame.Frame.{Frame}
-use Rattle.scope_types.specs.declared.frame.End.{End}
-use Rattle.scope_types.specs.declared.frame.End.TheVariants.{Whole, Partial}
-use Rattle.scope_types.specs.declared.frame.PartialCause.TheVariants.{NoFde, NoCfa, Expression, Unmapped, Depth}
+use Rattle.scope_types.specs.Ends.{end_of_number}
 use Rattle.scope_types.specs.Events.{event_number, event_of_number, periods_of, retired_every}
 use Rattle.scope_types.specs.declared.event.EventPeriod.{EventPeriod}
 use Rattle.scope_types.specs.Limits.{most_events, most_frames_in_all, most_frames_of_path, most_harts, most_samples}
@@ -48,11 +46,6 @@ is_length before n = nat_le 1 n && nat_le n most_frames_of_path && nat_le (befor
 abbrev pub is_end_number : ℕ → Bool
 is_end_number n = nat_le n 5
 
--- the end of a path with this number
-abbrev pub path_end : ℕ → End
-path_end n = if n == 0 then Whole else if n == 1 then Partial NoFde else if n == 2 then Partial NoCfa
-    else if n == 3 then Partial Expression else if n == 4 then Partial Unmapped else Partial Depth
-
 -- ---- paths
 
 -- a frame is its address
@@ -74,7 +67,7 @@ measured_path_from column tables at = do
   (length, first_pc) ← word_by (is_length (frames_in tables)) next
   (frames, next) ← times (adding measured_frame_from) length 0 [] first_pc
   paths ← new_path column first_pc.offset
-      (record { path = record { end = path_end end; frames = frames }; count = count })
+      (record { path = record { end = end_of_number end; frames = frames }; count = count })
       tables
   Ok (paths, next)
 

@@ -3,13 +3,11 @@
 use Rattle.std.specs.Prelude.{ℕ, List, [], ◌∷◌, ◌++◌, length, codes, if◌then◌else◌}
 use Rattle.std.specs.List.{flat_map}
 use Rattle.prof_bytes.specs.Number.{word, words}
+use Rattle.scope_types.specs.Ends.{end_number}
 use Rattle.scope_types.specs.Events.{event_words, is_retired_alone, periods_of, retired_every}
 use Rattle.scope_types.specs.declared.event.EventPeriod.{EventPeriod}
 use Rattle.scope_types.specs.declared.frame.Counted.{Counted}
 use Rattle.scope_types.specs.declared.frame.Frame.{Frame}
-use Rattle.scope_types.specs.declared.frame.End.{End}
-use Rattle.scope_types.specs.declared.frame.End.TheVariants.{Whole, Partial}
-use Rattle.scope_types.specs.declared.frame.PartialCause.TheVariants.{NoFde, NoCfa, Expression, Unmapped, Depth}
 use Rattle.measure_file.specs.declared.head.EventHead.{EventHead}
 use Rattle.measure_file.specs.declared.head.MeasureHead.{MeasureHead}
 use Rattle.measure_file.specs.declared.head.MeasureVersion.{MeasureVersion}
@@ -19,15 +17,6 @@ use Rattle.measure_file.specs.declared.head.MeasureVersion.TheVariants.{One, Two
 abbrev pub measure_magic : MeasureVersion → List ℕ
 measure_magic One = codes "HPCRUNM1"
 measure_magic Two = codes "HPCRUNM2"
-
--- the number of how a path ends
-abbrev pub end_number : End → ℕ
-end_number Whole = 0
-end_number (Partial NoFde) = 1
-end_number (Partial NoCfa) = 2
-end_number (Partial Expression) = 3
-end_number (Partial Unmapped) = 4
-end_number (Partial Depth) = 5
 
 -- a frame's address
 abbrev pub frame_bytes : Frame → List ℕ

@@ -128,10 +128,7 @@ fn read_retired(
 {
     let period = read_period(cursor)?;
     let mut events = Vec::new(alloc);
-    events.push(EventPeriod {
-        event: Event::Retired,
-        period,
-    })?;
+    events.push(EventPeriod::retired(period))?;
     Ok(events)
 }
 

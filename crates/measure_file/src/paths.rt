@@ -79,11 +79,10 @@ impl Paths {
             (new_path column offset (record { path = raw; count = count }) self.old) }
         ensures columns { OnOk result (length self.new ≡ length self.old) }
     {
-        if self.ccts.has(column, &raw) {
+        let frames = raw.frames().len() as u32;
+        if !self.ccts.put_new(column, raw, count)? {
             return Err(Fail::Fault(fault_at(offset)));
         }
-        let frames = raw.frames().len() as u32;
-        self.ccts.put(column, raw, count)?;
         self.samples += count;
         self.frames += frames;
         Ok(())

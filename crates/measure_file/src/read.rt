@@ -12,12 +12,12 @@ ghost use Rattle.measure_file.specs.Spelling.{measure_magic};
 use crate::events::read_events;
 use crate::fault::MeasureFault;
 use crate::fields::{
-    fault_at, path_end, read_count, read_end, read_frames, read_harts, read_length, read_word,
+    fault_at, read_count, read_end, read_frames, read_harts, read_length, read_word,
 };
 use crate::head::{EventHead, MeasureHead, MeasureVersion, magic_of};
 use crate::paths::Paths;
 use prof_bytes::{Cursor, Fail, Listed};
-use scope_types::RawPath;
+use scope_types::{End, RawPath};
 use std::alloc::Global;
 use thread_cct::Ccts;
 
@@ -38,7 +38,12 @@ fn read_path(
     let length = read_length(cursor, paths.frames())?;
     let first_pc = cursor.place();
     let frames = read_frames(alloc, cursor, length)?;
-    paths.put(column, RawPath::of(path_end(end), frames), count, first_pc)
+    paths.put(
+        column,
+        RawPath::of(End::of_number(end), frames),
+        count,
+        first_pc,
+    )
 }
 
 /// `count` paths of a column.

@@ -5,29 +5,16 @@ ghost use Rattle.prof_bytes.specs.Number.{words};
 ghost use Rattle.scope_types.specs.Events.{AreEvents, event_words, periods_of};
 ghost use Rattle.scope_types.specs.Limits.{most_harts};
 ghost use Rattle.thread_cct.specs.Adding.{of_column};
-ghost use Rattle.measure_file.specs.Spelling.{column_bytes, end_number, event_measurement_spelling};
+ghost use Rattle.measure_file.specs.Spelling.{column_bytes, event_measurement_spelling};
 ghost use Rattle.measure_file.specs.Spelling.{events_words, frame_bytes, head_bytes, measure_version};
 ghost use Rattle.measure_file.specs.Spelling.{measurement_limit, measurement_spelling, path_bytes};
 ghost use Rattle.measure_file.specs.Spelling.{retired_head};
 
 use crate::head::{EventHead, MeasureHead, MeasureVersion, magic_of};
 use prof_bytes::{Listed, Memory, Text, put_u32, put_words};
-use scope_types::{Counted, End, Event, EventPeriod, Frame, PartialCause};
+use scope_types::{Counted, EventPeriod, Frame, is_retired_alone};
 use std::alloc::Global;
 use thread_cct::Ccts;
-
-fn end_number(end: End) -> u32
-    ensures { result ≡ end_number end }
-{
-    match end {
-        End::Whole => 0,
-        End::Partial(PartialCause::NoFde) => 1,
-        End::Partial(PartialCause::NoCfa) => 2,
-        End::Partial(PartialCause::Expression) => 3,
-        End::Partial(PartialCause::Unmapped) => 4,
-        End::Partial(PartialCause::Depth) => 5,
-    }
-}
 
 fn put_frames(out: &mut Vec<u8>, frames: &[Frame]) -> Result<(), Memory>
     ensures { OnOk result (out.new.items ≡ out.old.items ++ flat_map frame_bytes frames.now) }
@@ -43,7 +30,7 @@ fn put_path(out: &mut Vec<u8>, counted: &Counted) -> Result<(), Memory>
 {
     let frames = counted.path.frames();
     put_u32(out, counted.count)?;
-    put_u32(out, end_number(counted.path.end()))?;
+    put_u32(out, counted.path.end().number())?;
     put_u32(out, frames.len() as u32)?;
     put_frames(out, frames)?;
     Ok(())
@@ -83,11 +70,7 @@ fn put_columns(out: &mut Vec<u8>, ccts: &Ccts, columns: u32) -> Result<(), Memor
 fn version_of(events: &[EventPeriod]) -> MeasureVersion
     ensures { result ≡ measure_version events.now }
 {
-    let retired_alone = match events {
-        [only] => only.event.number() == 0,
-        _ => false,
-    };
-    if retired_alone {
+    if is_retired_alone(events) {
         MeasureVersion::One
     } else {
         MeasureVersion::Two
@@ -180,10 +163,7 @@ fn retired_head(alloc: Global, head: &MeasureHead, harts: u32) -> Result<EventHe
     ensures { IfOk result (λ all. all ≡ retired_head head.now harts) }
 {
     let mut events = Vec::new(alloc);
-    events.push(EventPeriod {
-        event: Event::Retired,
-        period: head.period,
-    })?;
+    events.push(EventPeriod::retired(head.period))?;
     Ok(EventHead {
         length: head.length,
         entry: head.entry,

@@ -10,7 +10,7 @@ use crate::head::magic_of;
 use crate::raw::Version;
 use crate::write::count;
 use prof_bytes::{Memory, put_u32, put_words};
-use scope_types::EventPeriod;
+use scope_types::{EventPeriod, is_retired_alone};
 use tree_types::EventContent;
 
 /// The version in which a content of these events and runs is written.
@@ -18,13 +18,9 @@ fn version_of(events: &[EventPeriod], runs: &[u32]) -> Version
     ensures { result ≡ (if nat_le 2 (length runs.now) then versions.Three
         else if is_retired_alone events.now then versions.One else versions.Two) }
 {
-    let retired_alone = match events {
-        [only] => only.event.number() == 0,
-        _ => false,
-    };
     if runs.len() >= 2 {
         Version::Three
-    } else if retired_alone {
+    } else if is_retired_alone(events) {
         Version::One
     } else {
         Version::Two

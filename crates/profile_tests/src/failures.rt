@@ -6,6 +6,7 @@ use crate::measurements::{FOUR_PATHS, LINES, TABLE, files_of, files_with};
 use crate::programs::{ADDING, answer, database_alone};
 use crate::reports::FOUR_SAMPLES;
 use crate::structures::STRUCTURE;
+use crate::traces::{LINES as TRACE_LINES, ONE_SAMPLE, TIMELINE, trace_files};
 use hpc_top::{Place, Status};
 use prof_bytes::Text;
 use prof_devices::{MemShelf, MemSink, SureSink};
@@ -27,6 +28,10 @@ enum Command {
     View,
     /// Fetches nothing.
     Drill,
+    /// Fetches the program, the input and the schedule, and stores `t`.
+    Trace,
+    /// Fetches the program and the trace `t`.
+    Timeline,
 }
 
 impl Command {
@@ -38,6 +43,8 @@ impl Command {
             Command::Struct => "struct p",
             Command::View => "view d top",
             Command::Drill => "drill 0 1",
+            Command::Trace => "trace p i s 5 t",
+            Command::Timeline => "timeline p t 1 7",
         }
     }
 
@@ -49,6 +56,8 @@ impl Command {
             Command::Prof | Command::View => TABLE,
             Command::Struct => STRUCTURE,
             Command::Drill => DRILL_LINES,
+            Command::Trace => TRACE_LINES,
+            Command::Timeline => TIMELINE,
         }
     }
 
@@ -56,6 +65,7 @@ impl Command {
     fn kept_file(self) -> &'static [u8] {
         match self {
             Command::Run => b"m",
+            Command::Trace | Command::Timeline => b"t",
             _ => b"d",
         }
     }
@@ -134,7 +144,7 @@ const NEXT_FAILS: Failure = Failure {
     ..NO_FAILURE
 };
 
-static FAILURES: [Failure; 27] = [
+static FAILURES: [Failure; 37] = [
     NO_FAILURE,
     Failure {
         name: "profile: the program is not read",
@@ -287,6 +297,64 @@ static FAILURES: [Failure; 27] = [
         shelf_call: 2,
         ..NEXT_FAILS
     },
+    Failure {
+        name: "trace: the program is not read",
+        command: Command::Trace,
+        shelf_call: 1,
+        ..NOT_READ
+    },
+    Failure {
+        name: "trace: the input is not read",
+        command: Command::Trace,
+        shelf_call: 2,
+        ..NOT_READ
+    },
+    Failure {
+        name: "trace: the schedule is not read",
+        command: Command::Trace,
+        shelf_call: 3,
+        ..NOT_READ
+    },
+    Failure {
+        name: "trace: a front of the trace is stored",
+        command: Command::Trace,
+        shelf_call: 4,
+        ..FRONT_STORED
+    },
+    Failure {
+        name: "trace: a front of the text is put",
+        command: Command::Trace,
+        ..FRONT_PUT
+    },
+    Failure {
+        name: "trace: nothing is fetched, stored or put twice",
+        command: Command::Trace,
+        shelf_call: 5,
+        ..NEXT_FAILS
+    },
+    Failure {
+        name: "timeline: the program is not read",
+        command: Command::Timeline,
+        shelf_call: 1,
+        ..NOT_READ
+    },
+    Failure {
+        name: "timeline: the trace is not read",
+        command: Command::Timeline,
+        shelf_call: 2,
+        ..NOT_READ
+    },
+    Failure {
+        name: "timeline: a front of the text is put",
+        command: Command::Timeline,
+        ..FRONT_PUT
+    },
+    Failure {
+        name: "timeline: nothing is stored, nor fetched or put twice",
+        command: Command::Timeline,
+        shelf_call: 3,
+        ..NEXT_FAILS
+    },
 ];
 
 /// Of a drill, whose run is long.
@@ -325,6 +393,8 @@ fn is_stored(
         Command::Profile | Command::Prof => (b"before".as_slice(), database.as_slice()),
         Command::Run => (b"before".as_slice(), FOUR_PATHS),
         Command::View => (database.as_slice(), database.as_slice()),
+        Command::Trace => (b"before".as_slice(), ONE_SAMPLE),
+        Command::Timeline => (ONE_SAMPLE, ONE_SAMPLE),
         Command::Struct | Command::Drill => (b"before".as_slice(), b"before".as_slice()),
     };
     Ok(is_written(shelf.file(command.kept_file()), before, whole, written))
@@ -343,6 +413,8 @@ fn command_files(alloc: Global, command: Command) -> Result<Vec<(Text, Text)>, F
         Command::Prof => files_of(alloc, &ADDING, FOUR_PATHS),
         Command::Struct => files_with(alloc, WITH_INLINES, b"before"),
         Command::View => view_files(alloc),
+        Command::Trace => trace_files(alloc, b"before"),
+        Command::Timeline => trace_files(alloc, ONE_SAMPLE),
     }
 }
 

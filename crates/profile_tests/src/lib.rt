@@ -28,6 +28,8 @@ mod events;
 #[cfg(test)]
 mod failures;
 #[cfg(test)]
+mod live;
+#[cfg(test)]
 mod made_databases;
 #[cfg(test)]
 mod measurements;
@@ -51,6 +53,8 @@ mod several_runs;
 mod structures;
 #[cfg(test)]
 mod summaries;
+#[cfg(test)]
+mod traces;
 #[cfg(test)]
 mod view_faults;
 #[cfg(test)]

@@ -64,7 +64,7 @@ const ANOTHER_PROGRAM_THERE: InputFault = merging!(
 );
 
 /// Refusals, and their messages.
-static MESSAGES: [(InputFault, &str); 34] = [
+static MESSAGES: [(InputFault, &str); 36] = [
     (
         too_long!(Program, 67_108_864),
         "program longer than 67108864 bytes",
@@ -84,6 +84,10 @@ static MESSAGES: [(InputFault, &str); 34] = [
     (
         too_long!(Database, 2_147_483_648),
         "database longer than 2147483648 bytes",
+    ),
+    (
+        too_long!(Trace, 67_108_864),
+        "trace longer than 67108864 bytes",
     ),
     (InputFault::Schedule { line: 1 }, "schedule line 1"),
     (
@@ -119,6 +123,7 @@ static MESSAGES: [(InputFault, &str); 34] = [
     (InputFault::TooManyFrames, "more than 4194304 frames"),
     (InputFault::TooManyScopes, "more than 8388608 scopes"),
     (InputFault::Measurement { offset: 88 }, "measurement at 88"),
+    (InputFault::Trace { offset: 68 }, "trace at 68"),
     (
         ANOTHER_PROGRAM,
         "measurement of another program: kept 168 65536 found 100 4294967295",

@@ -47,10 +47,12 @@ const CASE: Case = Case {
 const USAGE: &str = "\
 usage: hpc profile ELF INPUT SCHEDULE PERIOD WORKERS DB | run ELF INPUT SCHEDULE PERIOD MEASURE \
 | prof ELF MEASURE WORKERS DB | struct ELF | view DB top|callers|flat [EVENT] | drill NUMBER WORKERS \
-| merge ELF WORKERS DB MEASURE .. | stats DB exclusive|frame|inclusive [EVENT]\n";
+| merge ELF WORKERS DB MEASURE .. | live ELF INPUT SCHEDULE PERIOD WORKERS EPOCH DB \
+| trace ELF INPUT SCHEDULE PERIOD TRACE | timeline ELF TRACE DEPTH CELLS \
+| stats DB exclusive|frame|inclusive [EVENT]\n";
 
 /// Words that are no command.
-static INVALID: [(&str, &str); 48] = [
+static INVALID: [(&str, &str); 66] = [
     ("no words", ""),
     ("a view that is none", "view d sideways"),
     ("a run without a file for the measurement", "run p i s 5"),
@@ -107,6 +109,27 @@ static INVALID: [(&str, &str); 48] = [
     ("a merge by no worker", "merge p 0 d m"),
     ("a merge of a file without a name", "merge p 1 d m  m"),
     ("a merge into a file without a name", "merge p 1  m"),
+    ("an epoch of 1023 samples", "live p i s 5 1 1023 d"),
+    ("an epoch of 1048577 samples", "live p i s 5 1 1048577 d"),
+    ("an epoch with a zero in front", "live p i s 5 1 01024 d"),
+    ("no epoch", "live p i s 5 1 d"),
+    ("epochs of a period of 0", "live p i s 0 1 1024 d"),
+    (
+        "epochs of events that descend",
+        "live p i s loads:1,retired:5 1 1024 d",
+    ),
+    ("epochs and no worker", "live p i s 5 0 1024 d"),
+    ("epochs into a file without a name", "live p i s 5 1 1024 "),
+    ("a trace with a period of 0", "trace p i s 0 t"),
+    ("a trace of a list of events", "trace p i s retired:5 t"),
+    ("a trace without a file for it", "trace p i s 5"),
+    ("a trace into a file without a name", "trace p i s 5 "),
+    ("a timeline at no depth", "timeline p t 0 7"),
+    ("a timeline of 65 procedures", "timeline p t 65 7"),
+    ("a timeline without a cell", "timeline p t 1 0"),
+    ("a timeline of 513 cells", "timeline p t 1 513"),
+    ("a timeline without cells", "timeline p t 1"),
+    ("a timeline of a file without a name", "timeline p  1 7"),
     ("summaries of no kind", "stats d"),
     ("summaries of a kind that is none", "stats d top"),
     ("summaries of an event that is none", "stats d frame cycles"),
@@ -296,11 +319,13 @@ fn files_of(alloc: Global, case: &Case) -> Result<Vec<(Text, Text)>, Fail> {
     files(alloc, elf.as_slice(), b"", case.schedule)
 }
 
-/// The first case that is not refused so.
-fn other_case(rt: &(impl Threads + Sync + AllocGlobal)) -> Result<Option<&'static str>, Fail> {
+/// The first case in which these words are not refused so.
+fn other_case(
+    rt: &(impl Threads + Sync + AllocGlobal),
+    line: &str,
+) -> Result<Option<&'static str>, Fail> {
     for case in &REFUSALS {
         let files = files_of(rt.alloc(), case)?;
-        let line = "profile p i s 5 1 d";
         if !is_refused(rt, line, files, b"before", case.status, case.line)? {
             return Ok(Some(case.name));
         }
@@ -310,6 +335,7 @@ fn other_case(rt: &(impl Threads + Sync + AllocGlobal)) -> Result<Option<&'stati
 
 #[test]
 fn refusals_by_their_places(rt: HostRuntime) -> Result<(), Fail> {
-    assert_eq!(rt; other_case(&rt)?, None);
+    assert_eq!(rt; other_case(&rt, "profile p i s 5 1 d")?, None);
+    assert_eq!(rt; other_case(&rt, "live p i s 5 1 1024 d")?, None);
     Ok(())
 }

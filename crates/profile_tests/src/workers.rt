@@ -63,11 +63,13 @@ fn straight_shelf(rt: &(impl Threads + Sync + AllocGlobal)) -> Result<SureShelf,
 }
 
 /// Commands that merge, and by how many workers.
-static MERGES: [(&str, u32); 4] = [
+static MERGES: [(&str, u32); 6] = [
     ("profile p i s 1 2 d", 2),
     ("profile p i s 1 16 d", 16),
     ("prof p m 2 d", 2),
     ("prof p m 16 d", 16),
+    ("live p i s 1 2 1024 d", 2),
+    ("live p i s 1 16 1024 d", 16),
 ];
 
 static DRILLS: [(&str, u32); 2] = [("drill 0 2", 2), ("drill 0 16", 16)];

@@ -1,6 +1,7 @@
 pub mod HartLines
-pub mod Retired
+pub mod DrillLines
 pub mod Columns
 pub mod FewEvents
 pub mod Counting
 pub mod EventLines
+pub mod RetiredLines

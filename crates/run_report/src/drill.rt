@@ -13,7 +13,7 @@ use std::alloc::Global;
 // ---- the numbers
 
 /// How many instructions all harts retired.
-#[tactic(auto, using(crate::proofs::Retired::retired_steps))]
+#[tactic(auto, using(crate::proofs::DrillLines::retired_steps))]
 pub fn all_retired(harts: u32, machine: &Machine<'_>) -> u128
     requires { harts ≡ length machine.now.state.harts }
     ensures { result ≡ retired_by machine.now.state }

@@ -2,7 +2,7 @@
 ghost use Rattle.std.specs.Prelude.{◌≡◌, ◌≤◌, ◌++◌, List, length, codes, OnOk};
 ghost use Rattle.std.specs.List.{enumerate_from, flat_map};
 ghost use Rattle.scope_types.specs.Distinct.{ColumnRaw, distinct, samples_in};
-ghost use Rattle.scope_types.specs.Events.{AreEvents, event_name};
+ghost use Rattle.scope_types.specs.Events.{AreEvents};
 ghost use Rattle.scope_types.specs.Limits.{most_samples};
 ghost use Rattle.run_report.specs.Report.{event_line, event_lines};
 ghost use Rattle.run_report.specs.private.Counted.{counted_line, named_line};
@@ -10,7 +10,7 @@ ghost use Rattle.run_report.specs.private.Counted.{counted_line, named_line};
 use crate::counts::event_samples;
 use crate::lines::put_count;
 use prof_bytes::{Memory, put_text};
-use scope_types::{Event, EventPeriod};
+use scope_types::EventPeriod;
 use thread_cct::Ccts;
 
 /// How many events there are.
@@ -23,26 +23,16 @@ pub(crate) fn count_of(periods: &[EventPeriod]) -> u32
     periods.len() as u32
 }
 
-fn name_of(event: Event) -> &'static str
-    ensures { result.now ≡ event_name event }
-{
-    match event {
-        Event::Retired => "retired",
-        Event::Loads => "loads",
-        Event::Stores => "stores",
-        Event::Taken => "taken",
-    }
-}
-
-fn put_name(out: &mut Vec<u8>, name: &str) -> Result<(), Memory>
+fn put_name(out: &mut Vec<u8>, name: &[u8]) -> Result<(), Memory>
     ensures { OnOk result (out.new.items ≡ out.old.items ++ codes "event " ++ name.now) }
 {
     put_text(out, "event ")?;
-    put_text(out, name)
+    out.extend_from_slice(name)?;
+    Ok(())
 }
 
 /// The line on an event of this name.
-fn put_named(out: &mut Vec<u8>, name: &str, every: u32, samples: u64) -> Result<(), Memory>
+fn put_named(out: &mut Vec<u8>, name: &[u8], every: u32, samples: u64) -> Result<(), Memory>
     requires { samples ≤ most_samples }
     ensures { OnOk result (out.new.items ≡ out.old.items ++ named_line name.now every samples) }
 {
@@ -59,7 +49,7 @@ pub fn put_event_line(out: &mut Vec<u8>, event: EventPeriod, samples: u64) -> Re
     requires { samples ≤ most_samples }
     ensures { OnOk result (out.new.items ≡ out.old.items ++ event_line event samples) }
 {
-    put_named(out, name_of(event.event), event.period, samples)
+    put_named(out, event.event.name(), event.period, samples)
 }
 
 /// The line of each event, of which these are the counted samples.

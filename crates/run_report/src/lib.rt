@@ -8,8 +8,10 @@ mod counts;
 mod drill;
 mod events;
 mod lines;
+mod retired;
 
 pub use counts::{all_samples, event_samples};
 pub use drill::{all_retired, drill_lines};
 pub use events::put_event_line;
 pub use lines::{run_and_events, run_lines};
+pub use retired::retired_lines;

@@ -62,7 +62,7 @@ fn put_end(out: &mut Vec<u8>, end: HartEnd) -> Result<(), Memory>
 }
 
 /// The guest's output, and a line feed where it is not empty and does not end in one.
-fn put_output(out: &mut Vec<u8>, output: &[u8]) -> Result<(), Memory>
+pub(crate) fn put_output(out: &mut Vec<u8>, output: &[u8]) -> Result<(), Memory>
     ensures { OnOk result (out.new.items ≡ out.old.items ++ closed output.now) }
 {
     out.extend_from_slice(output)?;
@@ -73,7 +73,12 @@ fn put_output(out: &mut Vec<u8>, output: &[u8]) -> Result<(), Memory>
     Ok(())
 }
 
-fn put_total_line(out: &mut Vec<u8>, harts: u32, period: u32, samples: u64) -> Result<(), Memory>
+pub(crate) fn put_total_line(
+    out: &mut Vec<u8>,
+    harts: u32,
+    period: u32,
+    samples: u64,
+) -> Result<(), Memory>
     requires { samples ≤ most_samples }
     ensures { OnOk result (out.new.items ≡ out.old.items ++ total_line harts period samples) }
 {
@@ -110,7 +115,7 @@ fn put_run_line(
     }
 }
 
-fn put_hart_line(
+pub(crate) fn put_hart_line(
     out: &mut Vec<u8>,
     hart: u32,
     samples: u64,

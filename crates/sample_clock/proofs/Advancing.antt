@@ -1,20 +1,22 @@
 -- The samples that are to come, while the machine goes on.
-use Rattle.std.proofs.Common.{◌≡◌, inl, ℕ, suc, ◌+◌, ◌%◌, ◌≤◌, List, [], ◌∷◌, ◌++◌, length, map, Option, Some, None, Result, Ok, Err, IsErr, IsErrAnd, refl, sym, ap, ap₂, subst, ◌∙◌, arith}
+use Rattle.std.proofs.Common.{◌≡◌, inl, ℕ, suc, ◌+◌, ◌%◌, ◌≤◌, ◌<◌, List, [], ◌∷◌, ◌++◌, length, length-append, map, Option, Some, None, Result, Ok, Err, IsErr, IsErrAnd, refl, sym, ap, ap₂, subst, ◌∙◌, arith}
 use Rattle.std.specs.List.{AllByRecursion}
 use Rattle.prof_bytes.specs.declared.fail.Fail.{Fail}
 use Rattle.prof_bytes.specs.declared.fail.Fail.TheVariants as fails
 use Rattle.prof_bytes.specs.declared.fail.Memory.{Memory}
 use Rattle.scope_types.specs.Limits.{most_samples}
 use Rattle.scope_types.specs.declared.event.EventPeriod.{EventPeriod}
+use Rattle.scope_types.specs.Raw.{Raw}
 use Rattle.rv_run.specs.Run.{Instant, Run, finished, preceded}
 use Rattle.rv_run.specs.Progress.{to_come}
 use Rattle.rv_run.proofs.Passing.{preceded-twice}
 use Rattle.sample_clock.specs.declared.clock.Advance.{Advance}
 use Rattle.sample_clock.specs.declared.clock.Sample.{Sample}
+use Rattle.sample_clock.specs.declared.coming.Coming.{Coming}
 use Rattle.sample_clock.specs.declared.clock.TooManySamples.{TooManySamples}
 use Rattle.sample_clock.specs.Samples.{Earlier, Paths, count_of, placed, sample_of, samples_after, samples_at}
 use Rattle.sample_clock.specs.Clock.{AnswersNext, IsOver, MeetsSample, Met, NoneLost, Reaches, Sampling, Unsampled, earlier_of, samples_now, samples_to_come}
-use Rattle.sample_clock.specs.private.Advance.{Advances, Ended, IsMet, NoneMet, OneSampled, Passes, Quiet, with_one_met}
+use Rattle.sample_clock.specs.private.Advance.{Advances, Ended, IsComing, IsMet, IsSampledNext, NoneMet, OneSampled, Passes, Quiet, SamplesNext, with_one_met}
 use Rattle.sample_clock.proofs.Following.{Same, count-append, mod-plus, places-same, samples-passed}
 
 -- ---- counts that go on
@@ -96,10 +98,30 @@ module _ (path_of : Paths) where
   pub none-met-more : (a b c : Sampling) → NoneMet path_of a b → Quiet path_of b c → NoneMet path_of a c
   none-met-more a b c was now = record { quiet = quiet-twice a b c was.quiet now; pending = was.pending; few = was.few }
 
+  pub quiet-shorter : (old new : Sampling) (quiet : Quiet path_of old new) → 0 < length quiet.passed → length (to_come new.machine).instants < length (to_come old.machine).instants
+  quiet-shorter old new quiet some =
+      let all : length (to_come old.machine).instants ≡ length (quiet.passed ++ (to_come new.machine).instants) = ap (λ (r : Run). length r.instants) quiet.passes.run in
+      let both = length-append quiet.passed (to_come new.machine).instants in
+      omega (arith, all, both, some)
+
   -- memory ran out
   pub broke : (answer : Result Advance Memory) (old new : Sampling) → IsErr answer → Quiet path_of old new → Advances path_of answer old new
   broke (Ok advance) old new is quiet = absurd cc
   broke (Err memory) old new is quiet = quiet
+
+  pub broke-next : (c : Coming) (answer : Result (Option Raw) Memory) (old new : Sampling) → IsErr answer → Quiet path_of old new → SamplesNext path_of c answer old new
+  broke-next c (Ok path) old new is quiet = absurd cc
+  broke-next c (Err memory) old new is quiet = quiet
+
+  -- an instruction is next that is sampled if it retires
+  pub none-met-at : (c : Coming) (a b next : Sampling) → NoneMet path_of a b → IsSampledNext c b next → NoneMet path_of a next
+  none-met-at c a b next was is = subst (NoneMet path_of a) (sym is.same) was
+
+  pub coming-at : (c : Coming) (b next : Sampling) → IsSampledNext c b next → IsComing c next
+  coming-at c b next is = subst (IsComing c) (sym is.same) is.coming
+
+  pub none-pending : (a b : Sampling) → NoneMet path_of a b → b.pending ≡ []
+  none-pending a b was = was.quiet.passes.pending ∙ was.pending
 
   -- ---- the answers
 

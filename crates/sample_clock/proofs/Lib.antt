@@ -9,3 +9,4 @@ pub mod Clocks
 pub mod Carrying
 pub mod Sampled
 pub mod Passes
+pub mod RetiredSamples

@@ -1,5 +1,5 @@
 -- One instruction, where it is sampled, and where it does not retire.
-use Rattle.std.proofs.Common.{◌≡◌, ℕ, ◌+◌, ◌%◌, ◌<◌, ◌==◌, ◌&&◌, Bool, true, false, cond, List, [], ◌∷◌, ◌++◌, length, map, filter, Option, append-nil, refl, sym, ap, ap₂, ◌∙◌, arith}
+use Rattle.std.proofs.Common.{◌≡◌, ◌≢◌, ℕ, ◌+◌, ◌%◌, ◌<◌, ◌==◌, ◌&&◌, Bool, true, false, cond, List, [], ◌∷◌, ◌++◌, length, map, filter, Option, Some, None, append-nil, refl, sym, ap, ap₂, ◌∙◌, arith}
 use Rattle.std.specs.Prelude.{option_to_list}
 use Rattle.std.specs.List.{enumerate_from}
 use Rattle.scope_types.specs.declared.event.EventPeriod.{EventPeriod}
@@ -11,7 +11,7 @@ use Rattle.sample_clock.specs.declared.clock.Sample.{Sample}
 use Rattle.sample_clock.specs.declared.coming.Coming.{Coming}
 use Rattle.sample_clock.specs.Samples.{Earlier, Paths, is_of, is_sampled, ordinal, placed, sample_of, sampled_places, samples_after, samples_at, words_of}
 use Rattle.sample_clock.specs.Clock.{Sampling, earlier_of, samples_now, samples_to_come}
-use Rattle.sample_clock.specs.private.Advance.{CarriedOut, IsComing, OneSampled, Quiet, coming_sample, coming_samples, places_of}
+use Rattle.sample_clock.specs.private.Advance.{CarriedOut, IsComing, OneSampled, Quiet, coming_sample, coming_samples, first_place, places_of, second_sample, with_pending}
 use Rattle.sample_clock.proofs.Advancing.{come-passed}
 
 -- ---- an instruction that did not retire is not sampled
@@ -34,6 +34,16 @@ one-after : (path_of : Paths) (f : Earlier) (events : List EventPeriod) (i : Ins
 unfolding placed
 one-after path_of f events i = append-nil (samples_at path_of f events (record { before = []; instant = i }))
 
+-- the first of an instruction's samples, and the second if there is one
+pub own-samples : (c : Coming) (path : Raw) → places_of c.is_retired_due c.place ≢ [] → coming_samples c path ≡ coming_sample c path (first_place c.is_retired_due c.place) ∷ option_to_list (second_sample c c.is_retired_due c.place path)
+own-samples c path some = by-case c.is_retired_due c.place some
+  where
+    by-case : (due : Bool) (place : Option ℕ) → places_of due place ≢ [] → map (coming_sample c path) (places_of due place) ≡ coming_sample c path (first_place due place) ∷ option_to_list (second_sample c due place path)
+    by-case true None is = refl
+    by-case true (Some place) is = refl
+    by-case false None is = absurd (is refl)
+    by-case false (Some place) is = refl
+
 module _ (path_of : Paths) (c : Coming) (old : Sampling) where
   pub unretired-quiet : (new : Sampling) → CarriedOut c false old new → (q : Quiet path_of old new) × (0 < length q.passed)
   unretired-quiet new carried =
@@ -45,10 +55,6 @@ module _ (path_of : Paths) (c : Coming) (old : Sampling) where
       (quiet, omega arith)
 
   -- ---- its samples, where it did
-
-  -- with these pending
-  abbrev pub with_pending : List Sample → Sampling → Sampling
-  with_pending pending s = record s { pending = pending }
 
   module _ (coming : IsComing c old) (none : old.pending ≡ []) (middle : Sampling) (carried : CarriedOut c true old middle) (path : Raw) (is : path ≡ path_of c.pc (hart_of old.machine.state c.hart).registers (words_of old.machine.state.memory))
       (first : Sample) (second : Option Sample) (samples : coming_samples c path ≡ first ∷ option_to_list second) where

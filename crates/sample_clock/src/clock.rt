@@ -1,24 +1,24 @@
 //! The clock that counts instructions down to the next sample of each event.
-ghost use Rattle.std.specs.Prelude.{◌≡◌, ◌≢◌, ◌<◌, ◌≤◌, ◌+◌, [], IfOk, OnErr, false, length, true};
+ghost use Rattle.std.specs.Prelude.{◌≡◌, ◌≢◌, ◌<◌, ◌≤◌, ◌+◌, [], IfOk, OnErr, false, length};
+ghost use Rattle.std.specs.Prelude.{option_to_list, true};
 ghost use Rattle.scope_types.specs.Events.{AreEvents, is_retired_alone};
 ghost use Rattle.scope_types.specs.Limits.{most_samples};
 ghost use Rattle.rv_run.specs.State.{hart_of};
 ghost use Rattle.rv_run.specs.Progress.{IsFresh, to_come};
-ghost use Rattle.sample_clock.specs.Samples.{Paths, samples, words_of};
+ghost use Rattle.sample_clock.specs.Samples.{Paths, samples};
 ghost use Rattle.sample_clock.specs.Clock.{AnswersNext, Reaches, samples_to_come};
 ghost use Rattle.sample_clock.specs.private.Advance.{Advances, CarriedOut, IsComing, IsMet};
-ghost use Rattle.sample_clock.specs.private.Advance.{places_of, with_one_met};
+ghost use Rattle.sample_clock.specs.private.Advance.{SamplesNext, first_sample, places_of};
+ghost use Rattle.sample_clock.specs.private.Advance.{second_sample, with_one_met, with_pending};
 ghost use Rattle.sample_clock.specs.private.Countdown.{IsUntil};
 
-use crate::coming::{Coming, samples_of};
-use crate::countdown::{
-    full_of, is_retired_alone, left_after, next_after, place_due, retired_period,
-};
+use crate::coming::{Coming, copied, path_before};
+use crate::countdown::{full_of, left_after, next_after, place_due, retired_period};
 use prof_bytes::{Fail, Memory};
 use rv_hart::EventsLeft;
 use rv_run::Machine;
 use scope_types::limits::{MOST_HARTS, MOST_SAMPLES};
-use scope_types::{EventPeriod, Frame, RawPath, Unwind};
+use scope_types::{EventPeriod, Frame, RawPath, Unwind, is_retired_alone};
 use std::marker::Model;
 
 /// A retired instruction that is sampled: its hart; the event for which it is, by its place in the list of events, from
@@ -35,18 +35,19 @@ pub struct Sample {
 #[derive(Clone, Copy, Debug, PartialEq, Eq)]
 pub struct TooManySamples;
 
-/// What comes next of a run.
-#[derive(Drop)]
+/// What comes next of a run: its end; instructions of which none is sampled, which were carried out; or one that is
+/// sampled if it retires, which was not.
+#[derive(Clone, Copy)]
 enum Advance {
     End,
     Unsampled,
-    Sampled(Sample),
+    Due(Coming),
 }
 
 /// A machine that is sampled; the events, the period of retired if it is one of them, and whether it is the only
 /// one; how many loads, stores and taken branches there may be between samples; for each hart the ordinal of its next
 /// sample of retired, and how many of the others are left before a sample; the second sample of the last instruction;
-/// and a list for the frames of the next path.
+/// a list for the frames of the next path, and one for those of its copy.
 #[derive(Drop)]
 pub struct Samples<'a> {
     machine: Machine<'a>,
@@ -59,6 +60,7 @@ pub struct Samples<'a> {
     pending: Option<Sample>,
     met: u32,
     list: Option<Vec<Frame>>,
+    spare: Option<Vec<Frame>>,
 }
 
 impl<'a> Model for Samples<'a> {
@@ -80,26 +82,6 @@ impl<'a> Model for Samples<'a> {
     ghost invariant = { λ s.
         IsClock s.machine.state s.events.items s.retired s.is_alone s.full s.next s.left
         × (s.met ≤ most_samples + 1) };
-}
-
-/// The call path of the instruction that comes next, for whose frames there may be a list.
-#[inline(always)]
-fn path_before<U: Unwind>(
-    machine: &Machine<'_>,
-    coming: &Coming,
-    unwinder: &U,
-    list: Option<Vec<Frame>>,
-) -> Result<RawPath, Memory>
-    requires { coming.now.hart < length machine.now.state.harts }
-    ensures { let registers = (hart_of machine.now.state coming.now.hart).registers in
-        IfOk result (λ path. path
-        ≡ U.path_of unwinder.now coming.now.pc registers (words_of machine.now.state.memory)) }
-{
-    let regs = machine.regs(coming.hart);
-    match list {
-        Some(list) => unwinder.path_in(coming.pc, regs, machine.space(), list),
-        None => unwinder.path(coming.pc, regs, machine.space()),
-    }
 }
 
 impl<'a> Samples<'a> {
@@ -127,14 +109,20 @@ impl<'a> Samples<'a> {
             pending: None,
             met: 0,
             list: None,
+            spare: None,
         }
     }
 
-    /// Takes a path that is no longer wanted, whose memory serves for the frames of the next one.
+    /// Takes a path that is no longer wanted, whose memory serves for the frames of a later one.
     pub fn take_back(&mut self, path: RawPath)
         ensures { self.new ≡ self.old }
     {
-        self.list = Some(path.into_frames());
+        let frames = path.into_frames();
+        if self.list.is_none() {
+            self.list = Some(frames);
+        } else {
+            self.spare = Some(frames);
+        }
     }
 
     /// The machine at this point of the run.
@@ -145,6 +133,7 @@ impl<'a> Samples<'a> {
     }
 
     /// Carries out the instruction that comes next, and says whether it retired.
+    #[inline(always)]
     fn carry_out(&mut self, coming: &Coming) -> Result<bool, Memory>
         requires { IsComing coming.now self.old }
         ensures ok { IfOk result (λ retired. CarriedOut coming.now retired self.old self.new) }
@@ -163,21 +152,54 @@ impl<'a> Samples<'a> {
         Ok(true)
     }
 
-    /// Carries out the instruction that comes next, and takes its samples if it retires.
-    fn sample<U: Unwind>(&mut self, coming: &Coming, unwinder: &U) -> Result<Advance, Memory>
+    /// The second sample of the instruction that comes next, if it has two. The path is copied for it.
+    #[inline(always)]
+    fn second_sample(&mut self, coming: &Coming, path: &RawPath) -> Result<Option<Sample>, Memory>
+        ensures second { IfOk result (λ second. second
+            ≡ second_sample coming.now coming.now.is_retired_due coming.now.place path.now) }
+        ensures same { self.new ≡ self.old }
+    {
+        match coming.place {
+            Some(place) if coming.is_retired_due => {
+                let copy = copied(path, self.spare.take())?;
+                Ok(Some(coming.sample(place, copy)))
+            }
+            _ => Ok(None),
+        }
+    }
+
+    /// Keeps the second sample of an instruction, if it has two, for the next call.
+    #[inline(always)]
+    fn keep(&mut self, second: Option<Sample>)
+        requires { self.old.pending ≡ [] }
+        ensures { self.new ≡ with_pending (option_to_list second) self.old }
+    {
+        if second.is_some() {
+            self.pending = second;
+        }
+    }
+
+    /// Carries out the instruction that comes next, and gives the call path before it if it retires. Its second sample,
+    /// if it has two, is then pending.
+    #[inline(always)]
+    fn sample<U: Unwind>(
+        &mut self,
+        coming: &Coming,
+        unwinder: &U,
+    ) -> Result<Option<RawPath>, Memory>
         requires coming { IsComing coming.now self.old }
         requires sampled { places_of coming.now.is_retired_due coming.now.place ≢ [] }
         requires pending { self.old.pending ≡ [] }
-        ensures { Advances (U.path_of unwinder.now) result self.old self.new }
+        ensures { SamplesNext (U.path_of unwinder.now) coming.now result self.old self.new }
     {
         let list = self.list.take();
         let path = path_before(&self.machine, coming, unwinder, list)?;
-        let (first, second) = samples_of(coming, path)?;
+        let second = self.second_sample(coming, &path)?;
         if !self.carry_out(coming)? {
-            return Ok(Advance::Unsampled);
+            return Ok(None);
         }
-        self.pending = second;
-        Ok(Advance::Sampled(first))
+        self.keep(second);
+        Ok(Some(path))
     }
 
     /// How many instructions a hart may retire before one that is sampled for retired, where the next one has this
@@ -194,36 +216,36 @@ impl<'a> Samples<'a> {
         }
     }
 
-    /// Carries out what comes next, where retired is the only event.
-    fn go_on_alone<U: Unwind>(&mut self, unwinder: &U) -> Result<Advance, Memory>
+    /// Carries out instructions of which none is sampled, or says which one is next that is sampled if it retires; where
+    /// retired is the only event.
+    #[inline(always)]
+    fn go_on_alone(&mut self) -> Result<Advance, Memory>
         requires alone { is_retired_alone self.old.events ≡ true }
-        requires pending { self.old.pending ≡ [] }
-        ensures { Advances (U.path_of unwinder.now) result self.old self.new }
+        ensures { (path_of : Paths) → Advances path_of result self.old self.new }
     {
         let Some(upcoming) = self.machine.upcoming() else {
             return Ok(Advance::End);
         };
         let until = self.until_retired(upcoming.hart, upcoming.ordinal);
         if until == 0 {
-            let coming = Coming {
+            return Ok(Advance::Due(Coming {
                 hart: upcoming.hart,
                 pc: upcoming.pc,
                 ordinal: upcoming.ordinal,
                 extra: None,
                 is_retired_due: true,
                 place: None,
-            };
-            return self.sample(&coming, unwinder);
+            }));
         }
         self.machine.pass(&upcoming, until)?;
         Ok(Advance::Unsampled)
     }
 
-    /// Carries out what comes next, where other events are sampled.
-    fn go_on_counting<U: Unwind>(&mut self, unwinder: &U) -> Result<Advance, Memory>
+    /// The same where other events are sampled.
+    #[inline(always)]
+    fn go_on_counting(&mut self) -> Result<Advance, Memory>
         requires alone { is_retired_alone self.old.events ≡ false }
-        requires pending { self.old.pending ≡ [] }
-        ensures { Advances (U.path_of unwinder.now) result self.old self.new }
+        ensures { (path_of : Paths) → Advances path_of result self.old self.new }
     {
         let Some(due) = self.machine.due() else {
             return Ok(Advance::End);
@@ -232,15 +254,14 @@ impl<'a> Samples<'a> {
         let mut left = self.left[due.hart as usize];
         let place = place_due(self.events.as_slice(), left, due.extra);
         if until == 0 || place.is_some() {
-            let coming = Coming {
+            return Ok(Advance::Due(Coming {
                 hart: due.hart,
                 pc: due.pc,
                 ordinal: due.ordinal,
                 extra: due.extra,
                 is_retired_due: until == 0,
                 place,
-            };
-            return self.sample(&coming, unwinder);
+            }));
         }
         let passed = self.machine.pass_counting(&due, &mut left, until);
         self.left[due.hart as usize] = left;
@@ -248,29 +269,98 @@ impl<'a> Samples<'a> {
         Ok(Advance::Unsampled)
     }
 
-    /// Carries out what comes next.
-    fn go_on<U: Unwind>(&mut self, unwinder: &U) -> Result<Advance, Memory>
-        requires { self.old.pending ≡ [] }
-        ensures { Advances (U.path_of unwinder.now) result self.old self.new }
+    /// Counts a sample, and says whether there may be so many.
+    #[inline(always)]
+    fn count_met(&mut self) -> bool
+        requires { self.old.met ≤ most_samples }
+        ensures few { result ≡ true → self.new.met ≤ most_samples }
+        ensures over { result ≡ false → self.new.met ≡ most_samples + 1 }
+        ensures new { self.new ≡ with_one_met self.old }
     {
-        if self.is_alone {
-            self.go_on_alone(unwinder)
-        } else {
-            self.go_on_counting(unwinder)
-        }
+        self.met += 1;
+        self.met <= MOST_SAMPLES
     }
 
     /// Counts a sample, and gives it unless it is one too many.
+    #[inline(always)]
     fn give(&mut self, sample: Sample) -> Result<Option<Sample>, Fail<TooManySamples>>
         requires { self.old.met ≤ most_samples }
         ensures met { IsMet sample result self.new }
         ensures new { self.new ≡ with_one_met self.old }
     {
-        self.met += 1;
-        if self.met <= MOST_SAMPLES {
-            return Ok(Some(sample));
+        if !self.count_met() {
+            return Err(Fail::Fault(TooManySamples));
         }
-        Err(Fail::Fault(TooManySamples))
+        Ok(Some(sample))
+    }
+
+    /// Counts the first sample of an instruction, and gives it unless it is one too many.
+    #[inline(always)]
+    fn give_first(
+        &mut self,
+        coming: &Coming,
+        path: RawPath,
+    ) -> Result<Option<Sample>, Fail<TooManySamples>>
+        requires { self.old.met ≤ most_samples }
+        ensures met { IsMet (first_sample coming.now path) result self.new }
+        ensures new { self.new ≡ with_one_met self.old }
+    {
+        if !self.count_met() {
+            return Err(Fail::Fault(TooManySamples));
+        }
+        Ok(Some(coming.sample(coming.first_place(), path)))
+    }
+
+    /// The next sample, where retired is the only event.
+    #[inline(always)]
+    fn next_alone<U: Unwind>(
+        &mut self,
+        unwinder: &U,
+    ) -> Result<Option<Sample>, Fail<TooManySamples>>
+        requires alone { is_retired_alone self.old.events ≡ true }
+        requires pending { self.old.pending ≡ [] }
+        requires few { self.old.met ≤ most_samples }
+        ensures answer { AnswersNext (U.path_of unwinder.now) result self.old self.new }
+        ensures reached { Reaches (U.path_of unwinder.now) result self.old self.new }
+        ensures last { (to_come self.new.machine).final ≡ (to_come self.old.machine).final }
+    {
+        loop {
+            match self.go_on_alone()? {
+                Advance::End => return Ok(None),
+                Advance::Unsampled => {}
+                Advance::Due(coming) => {
+                    if let Some(path) = self.sample(&coming, unwinder)? {
+                        return self.give_first(&coming, path);
+                    }
+                }
+            }
+        }
+    }
+
+    /// The next sample, where other events are sampled.
+    #[inline(always)]
+    fn next_counting<U: Unwind>(
+        &mut self,
+        unwinder: &U,
+    ) -> Result<Option<Sample>, Fail<TooManySamples>>
+        requires alone { is_retired_alone self.old.events ≡ false }
+        requires pending { self.old.pending ≡ [] }
+        requires few { self.old.met ≤ most_samples }
+        ensures answer { AnswersNext (U.path_of unwinder.now) result self.old self.new }
+        ensures reached { Reaches (U.path_of unwinder.now) result self.old self.new }
+        ensures last { (to_come self.new.machine).final ≡ (to_come self.old.machine).final }
+    {
+        loop {
+            match self.go_on_counting()? {
+                Advance::End => return Ok(None),
+                Advance::Unsampled => {}
+                Advance::Due(coming) => {
+                    if let Some(path) = self.sample(&coming, unwinder)? {
+                        return self.give_first(&coming, path);
+                    }
+                }
+            }
+        }
     }
 
     /// The next sample; `None` exactly where the run has ended and none is left. An instruction that is sampled for
@@ -288,12 +378,10 @@ impl<'a> Samples<'a> {
         if let Some(sample) = self.pending.take() {
             return self.give(sample);
         }
-        loop {
-            match self.go_on(unwinder)? {
-                Advance::End => return Ok(None),
-                Advance::Unsampled => {}
-                Advance::Sampled(sample) => return self.give(sample),
-            }
+        if self.is_alone {
+            self.next_alone(unwinder)
+        } else {
+            self.next_counting(unwinder)
         }
     }
 }

@@ -1,10 +1,13 @@
 //! The instruction that comes next, and its samples.
-ghost use Rattle.std.specs.Prelude.{◌≡◌, ◌≢◌, ◌∷◌, [], IfOk, option_to_list};
-ghost use Rattle.sample_clock.specs.private.Advance.{coming_samples, places_of};
+ghost use Rattle.std.specs.Prelude.{◌≡◌, ◌<◌, IfOk, length};
+ghost use Rattle.rv_run.specs.State.{hart_of};
+ghost use Rattle.sample_clock.specs.Samples.{words_of};
+ghost use Rattle.sample_clock.specs.private.Advance.{coming_sample, first_place};
 
 use crate::clock::Sample;
 use prof_bytes::Memory;
-use scope_types::{Event, RawPath};
+use rv_run::Machine;
+use scope_types::{Event, Frame, RawPath, Unwind};
 
 /// The instruction that comes next: its hart, its address, and the number that it gets if it retires; the event that
 /// it has beside retired, which is looked up only where an event other than retired is sampled; whether it is sampled
@@ -20,44 +23,62 @@ pub(crate) struct Coming {
     pub(crate) place: Option<u32>,
 }
 
-/// The samples of an instruction, in the order of the events: the first, and the second if there is one. The path is
-/// copied for the second.
-pub(crate) fn samples_of(coming: &Coming, path: RawPath) -> Result<(Sample, Option<Sample>), Memory>
-    requires { places_of coming.now.is_retired_due coming.now.place ≢ [] }
-    ensures { IfOk result (λ samples.
-        coming_samples coming.now path ≡ samples.0 ∷ option_to_list samples.1) }
+impl Coming {
+    /// The place of the event of its first sample.
+    #[inline(always)]
+    pub(crate) fn first_place(&self) -> u32
+        ensures { result ≡ first_place self.now.is_retired_due self.now.place }
+    {
+        match self.place {
+            Some(place) if !self.is_retired_due => place,
+            _ => 0,
+        }
+    }
+
+    /// Its sample for the event at a place.
+    #[inline(always)]
+    pub(crate) fn sample(&self, event: u32, path: RawPath) -> Sample
+        ensures { result ≡ coming_sample self.now path event }
+    {
+        Sample {
+            hart: self.hart,
+            event,
+            ordinal: self.ordinal,
+            path,
+        }
+    }
+}
+
+/// A copy of a path, in a list for its frames if there is one.
+#[inline(always)]
+pub(crate) fn copied(path: &RawPath, list: Option<Vec<Frame>>) -> Result<RawPath, Memory>
+    ensures { IfOk result (λ copy. copy ≡ path.now) }
 {
-    let (hart, ordinal) = (coming.hart, coming.ordinal);
-    let place = coming.place.unwrap_or(0);
-    if !coming.is_retired_due {
-        let only = Sample {
-            hart,
-            event: place,
-            ordinal,
-            path,
-        };
-        return Ok((only, None));
-    }
-    if coming.place.is_none() {
-        let only = Sample {
-            hart,
-            event: 0,
-            ordinal,
-            path,
-        };
-        return Ok((only, None));
-    }
-    let second = Sample {
-        hart,
-        event: place,
-        ordinal,
-        path: path.copy()?,
+    let Some(list) = list else {
+        return path.copy();
     };
-    let first = Sample {
-        hart,
-        event: 0,
-        ordinal,
-        path,
-    };
-    Ok((first, Some(second)))
+    let mut frames = list;
+    frames.clear();
+    frames.extend_from_slice(path.frames())?;
+    Ok(RawPath::of(path.end(), frames))
+}
+
+/// The call path of the instruction that comes next, for whose frames there may be a list.
+#[inline(always)]
+pub(crate) fn path_before<U: Unwind>(
+    machine: &Machine<'_>,
+    coming: &Coming,
+    unwinder: &U,
+    list: Option<Vec<Frame>>,
+) -> Result<RawPath, Memory>
+    requires { coming.now.hart < length machine.now.state.harts }
+    ensures { let registers = (hart_of machine.now.state coming.now.hart).registers in
+        IfOk result (λ path. path
+        ≡ U.path_of unwinder.now coming.now.pc registers (words_of machine.now.state.memory)) }
+{
+    let regs = machine.regs(coming.hart);
+    match list {
+        Some(list) => unwinder.path_in(coming.pc, regs, machine.space(), list),
+        None => unwinder.path(coming.pc, regs, machine.space()),
+    }
 }

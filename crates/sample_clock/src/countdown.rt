@@ -1,23 +1,12 @@
 //! How many instructions of an event there may be before one that is sampled.
 ghost use Rattle.std.specs.Prelude.{◌≡◌, ◌≤◌, ◌<◌, ◌+◌, ◌^◌, IfSome, length};
 ghost use Rattle.rv_run.specs.Schedule.{most_instructions};
-ghost use Rattle.scope_types.specs.Events.{is_retired_alone};
 ghost use Rattle.sample_clock.specs.private.Countdown.{full_of, is_used_up, left_after, left_for};
 ghost use Rattle.sample_clock.specs.private.Countdown.{next_after, one_less, place_from, place_of};
 ghost use Rattle.sample_clock.specs.private.Countdown.{retired_period, used_up};
 
 use rv_hart::EventsLeft;
 use scope_types::{Event, EventPeriod};
-
-/// Whether retired is the only event.
-pub(crate) fn is_retired_alone(events: &[EventPeriod]) -> bool
-    ensures { result ≡ is_retired_alone events.now }
-{
-    match events {
-        [only] => only.event.number() == 0,
-        _ => false,
-    }
-}
 
 /// The period of retired, where it is sampled: it is the first of the events.
 pub(crate) fn retired_period(events: &[EventPeriod]) -> Option<u32>

@@ -13,4 +13,4 @@ mod countdown;
 mod laws;
 
 pub use clock::{Sample, Samples, TooManySamples};
-pub use laws::samples_are_of_instructions;
+pub use laws::{retired_samples_are_counted, samples_are_of_instructions};

@@ -37,6 +37,14 @@ most_workers = 16
 abbrev pub stripe_count : ℕ
 stripe_count = 16
 
+-- the fewest samples that an epoch of a run has, which is merged while the run goes on
+abbrev pub least_epoch : ℕ
+least_epoch = 1024
+
+-- and the most
+abbrev pub most_epoch : ℕ
+most_epoch = 1048576
+
 -- how many bytes the name of a procedure or of a file may have
 abbrev pub most_name_bytes : ℕ
 most_name_bytes = 4096

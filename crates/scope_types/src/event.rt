@@ -1,6 +1,7 @@
 //! The events of a run that can be sampled.
-ghost use Rattle.std.specs.Prelude.{◌≡◌};
+ghost use Rattle.std.specs.Prelude.{◌≡◌, [], ◌∷◌};
 ghost use Rattle.scope_types.specs.Events.{event_name, event_number, event_of_number};
+ghost use Rattle.scope_types.specs.Events.{is_retired_alone, retired_every};
 
 /// What is counted of a run.
 #[derive(Clone, Copy, Debug, PartialEq, Eq)]
@@ -57,5 +58,27 @@ impl Event {
             Event::Stores => b"stores",
             Event::Taken => b"taken",
         }
+    }
+}
+
+impl EventPeriod {
+    /// Retired instructions with their period.
+    pub fn retired(period: u32) -> EventPeriod
+        ensures { result ∷ [] ≡ retired_every period }
+    {
+        EventPeriod {
+            event: Event::Retired,
+            period,
+        }
+    }
+}
+
+/// Whether retired instructions are the only event.
+pub fn is_retired_alone(events: &[EventPeriod]) -> bool
+    ensures { result ≡ is_retired_alone events.now }
+{
+    match events {
+        [only] => only.event.number() == 0,
+        _ => false,
     }
 }

@@ -1,4 +1,5 @@
 ghost use Rattle.std.specs.Prelude.{◌≡◌, IfOk, fold};
+ghost use Rattle.scope_types.specs.Ends.{end_number, end_of_number};
 ghost use Rattle.scope_types.specs.Raw.{HasFrames};
 ghost use Rattle.scope_types.specs.private.SameRaw.{packed, frame_writes};
 
@@ -34,6 +35,36 @@ pub enum End {
     /// It reaches the thread's first procedure.
     Whole,
     Partial(PartialCause),
+}
+
+impl End {
+    /// The number by which files name the end, 0 to 5.
+    pub fn number(self) -> u32
+        ensures { result ≡ end_number self }
+    {
+        match self {
+            End::Whole => 0,
+            End::Partial(PartialCause::NoFde) => 1,
+            End::Partial(PartialCause::NoCfa) => 2,
+            End::Partial(PartialCause::Expression) => 3,
+            End::Partial(PartialCause::Unmapped) => 4,
+            End::Partial(PartialCause::Depth) => 5,
+        }
+    }
+
+    /// The end with a number of 0 to 5; a greater number is taken for 5.
+    pub fn of_number(number: u32) -> End
+        ensures { result ≡ end_of_number number }
+    {
+        match number {
+            0 => End::Whole,
+            1 => End::Partial(PartialCause::NoFde),
+            2 => End::Partial(PartialCause::NoCfa),
+            3 => End::Partial(PartialCause::Expression),
+            4 => End::Partial(PartialCause::Unmapped),
+            _ => End::Partial(PartialCause::Depth),
+        }
+    }
 }
 
 /// A call path as the unwinder finds it: 1 to 512 frames, the innermost first, and how it ends.

@@ -18,7 +18,7 @@ mod name;
 mod path;
 mod scope;
 
-pub use event::{Event, EventPeriod};
+pub use event::{Event, EventPeriod, is_retired_alone};
 pub use expand::Expand;
 pub use frame::{Counted, End, Frame, PartialCause, RawPath};
 pub use hash::{FNV_BASIS, fnv_step, key};

@@ -1,6 +1,7 @@
 //! The limits of a profile, each in one place.
 ghost use Rattle.std.specs.Prelude.{◌≡◌};
 ghost use Rattle.scope_types.specs.Limits.{most_events, most_frames_in_all, most_frames_of_path, most_harts, most_name_bytes};
+ghost use Rattle.scope_types.specs.Limits.{least_epoch, most_epoch};
 ghost use Rattle.scope_types.specs.Limits.{most_runs, most_samples, most_scopes_in_all, most_workers, stripe_count};
 
 /// The harts of a run.
@@ -30,6 +31,12 @@ pub const MOST_WORKERS: usize = 16;
 /// The parts of the tree of a merge.
 pub const STRIPES: usize = 16;
 
+/// The fewest samples of an epoch, which is merged while the run goes on.
+pub const LEAST_EPOCH: u32 = 1_024;
+
+/// The most samples of an epoch.
+pub const MOST_EPOCH: u32 = 1_048_576;
+
 /// The bytes that are kept of a name: of a procedure's, and of a file's with its directory.
 pub const MOST_NAME_BYTES: usize = 4_096;
 
@@ -43,6 +50,8 @@ pub fn limits_are_those_of_the_definitions()
     ensures frames_in_all { MOST_FRAMES_IN_ALL ≡ most_frames_in_all }
     ensures scopes_in_all { MOST_SCOPES_IN_ALL ≡ most_scopes_in_all }
     ensures workers { MOST_WORKERS ≡ most_workers }
+    ensures least_epoch { LEAST_EPOCH ≡ least_epoch }
+    ensures most_epoch { MOST_EPOCH ≡ most_epoch }
     ensures stripes { STRIPES ≡ stripe_count }
     ensures name_bytes { MOST_NAME_BYTES ≡ most_name_bytes }
 {}
@@ -57,6 +66,8 @@ pub fn limit_values()
     ensures frames_in_all { most_frames_in_all ≡ 4194304 }
     ensures scopes_in_all { most_scopes_in_all ≡ 8388608 }
     ensures workers { most_workers ≡ 16 }
+    ensures least_epoch { least_epoch ≡ 1024 }
+    ensures most_epoch { most_epoch ≡ 1048576 }
     ensures stripes { stripe_count ≡ 16 }
     ensures name_bytes { most_name_bytes ≡ 4096 }
 {}

@@ -8,5 +8,4 @@ mod DealtEntries
 mod Located
 pub mod PlanLaws
 mod Mergeable
-pub mod Copying
 pub mod Appended

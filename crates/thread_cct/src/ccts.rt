@@ -1,5 +1,5 @@
 ghost use Rattle.std.specs.Prelude.{◌≡◌, ◌+◌, ◌^◌, ◌<◌, ◌∷◌, ◌++◌, [], false, if◌then◌else◌, List, length, slice_get};
-ghost use Rattle.std.specs.Prelude.{Some, IfOk, OnOk, OnErr, All, ◌≤◌, replicate};
+ghost use Rattle.std.specs.Prelude.{Some, IfOk, OnOk, OnErr, All, ◌≤◌, not, replicate};
 ghost use Rattle.prof_bytes.specs.Outcome.{Gives};
 ghost use Rattle.scope_types.specs.Distinct.{ColumnRaw, distinct, frames_in, samples_in};
 ghost use Rattle.scope_types.specs.Limits.{most_frames_in_all, most_samples};
@@ -81,31 +81,21 @@ fn put_path(tables: &mut Vec<PathTable>, column: usize, raw: RawPath) -> Result<
     tables[column].put(raw)
 }
 
-/// Puts a counted path that is new to its column.
-fn put_last(
+/// Puts a counted path last where it is new to its column, and says whether it is.
+fn put_new_path(
     tables: &mut Vec<PathTable>,
     column: usize,
     raw: RawPath,
     count: u32,
-) -> Result<(), Memory>
+) -> Result<bool, Memory>
     requires column { column < length tables.old.items }
-    requires new { has_path raw (of_column tables.old.items column) ≡ false }
-    ensures ok { OnOk result (tables.new.items
-        ≡ with_path tables.old.items column (record { path = raw; count = count })) }
+    ensures found { IfOk result (λ is_new. is_new ≡ not (has_path raw (of_column tables.old.items column))) }
+    ensures put { IfOk result (λ is_new. tables.new.items
+        ≡ (if is_new then with_path tables.old.items column (record { path = raw; count = count })
+        else tables.old.items)) }
     ensures err { OnErr result (tables.new.items ≡ tables.old.items) }
 {
-    tables[column].put_counted(raw, count)
-}
-
-/// Copies of the paths of several columns, in order.
-fn copies_of(alloc: Global, tables: &[PathTable]) -> Result<Vec<PathTable>, Memory>
-    ensures { IfOk result (λ copies. copies.items ≡ tables.now) }
-{
-    let mut copies = Vec::new(alloc);
-    for table in tables {
-        copies.push(table.copy(alloc)?)?;
-    }
-    Ok(copies)
+    tables[column].put_new(raw, count)
 }
 
 impl Ccts {
@@ -167,52 +157,50 @@ impl Ccts {
         Ok(())
     }
 
-    /// Whether a column has this raw path.
-    pub fn has(&self, column: u32, raw: &RawPath) -> bool
-        requires { column < length self.now }
-        ensures { result ≡ has_path raw.now (of_column self.now column) }
-    {
-        self.tables[column as usize].has(raw)
-    }
-
-    /// Puts a raw path that is new to its column last, with its count. Where memory runs out nothing is changed.
+    /// Puts a raw path last, with its count, where it is new to its column, and says whether it is. Where it is not,
+    /// or memory runs out, nothing is changed.
     #[tactic(auto, using(crate::proofs::Putting::putting_steps))]
-    pub fn put(&mut self, column: u32, raw: RawPath, count: u32) -> Result<(), Memory>
+    pub fn put_new(&mut self, column: u32, raw: RawPath, count: u32) -> Result<bool, Memory>
         requires column { column < length self.old }
-        requires new { has_path raw (of_column self.old column) ≡ false }
         requires count { 0 < count }
         requires few { samples_in self.old + count ≤ most_samples }
         requires frames { frames_in self.old + length raw.frames ≤ most_frames_in_all }
-        ensures ok { OnOk result (self.new ≡ with_path self.old column (record { path = raw; count = count })) }
+        ensures found { IfOk result (λ is_new. is_new ≡ not (has_path raw (of_column self.old column))) }
+        ensures put { IfOk result (λ is_new. self.new
+            ≡ (if is_new then with_path self.old column (record { path = raw; count = count }) else self.old)) }
         ensures err { OnErr result (self.new ≡ self.old) }
         ensures columns { length self.new ≡ length self.old }
-        ensures samples { OnOk result (samples_in self.new ≡ samples_in self.old + count) }
-        ensures paths { OnOk result (frames_in self.new ≡ frames_in self.old + length raw.frames) }
+        ensures samples { IfOk result (λ is_new. samples_in self.new
+            ≡ samples_in self.old + (if is_new then count else 0)) }
+        ensures paths { IfOk result (λ is_new. frames_in self.new
+            ≡ frames_in self.old + (if is_new then length raw.frames else 0)) }
     {
         let frames = self.frames + raw.frames().len() as u64;
-        put_last(&mut self.tables, column as usize, raw, count)?;
+        if !put_new_path(&mut self.tables, column as usize, raw, count)? {
+            return Ok(false);
+        }
         self.frames = frames;
-        Ok(())
+        Ok(true)
     }
 
     /// The other's columns follow the own ones, with their paths and counts. `TooManyFrames` comes exactly where the
     /// distinct paths of both have more than 4,194,304 frames. Nothing is changed then, and nothing where memory runs
     /// out.
-    pub fn append(&mut self, other: &Ccts) -> Result<(), Fail<TooManyFrames>>
-        requires columns { length self.old + length other.now < 2 ^ 32 }
-        requires few { samples_in self.old + samples_in other.now ≤ most_samples }
-        ensures answer { Gives (λ done. self.new) result (few_frames (self.old ++ other.now)) }
+    pub fn append(&mut self, other: Ccts) -> Result<(), Fail<TooManyFrames>>
+        requires columns { length self.old + length other < 2 ^ 32 }
+        requires few { samples_in self.old + samples_in other ≤ most_samples }
+        ensures answer { Gives (λ done. self.new) result (few_frames (self.old ++ other)) }
         ensures err { OnErr result (self.new ≡ self.old) }
-        ensures columns { OnOk result (length self.new ≡ length self.old + length other.now) }
-        ensures samples { OnOk result (samples_in self.new ≡ samples_in self.old + samples_in other.now) }
-        ensures frames { OnOk result (frames_in self.new ≡ frames_in self.old + frames_in other.now) }
+        ensures columns { OnOk result (length self.new ≡ length self.old + length other) }
+        ensures samples { OnOk result (samples_in self.new ≡ samples_in self.old + samples_in other) }
+        ensures frames { OnOk result (frames_in self.new ≡ frames_in self.old + frames_in other) }
     {
         let frames = self.frames + other.frames;
         if frames > u64::from(MOST_FRAMES_IN_ALL) {
             return Err(Fail::Fault(TooManyFrames));
         }
-        let mut copies = copies_of(self.alloc, &other.tables)?;
-        self.tables.append(&mut copies)?;
+        let Ccts { mut tables, .. } = other;
+        self.tables.append(&mut tables)?;
         self.frames = frames;
         Ok(())
     }

@@ -1,11 +1,12 @@
 //! The distinct raw paths of one column. A table by hashing finds them.
 ghost use Rattle.std.specs.Prelude.{◌≡◌, ◌<◌, ◌-◌, ◌^◌, ◌++◌, ◌∷◌, [], true, false, if◌then◌else◌, length, slice_get};
-ghost use Rattle.std.specs.Prelude.{sum_by, Some, IfOk, OnOk, OnErr, MatchOption};
+ghost use Rattle.std.specs.Prelude.{not, sum_by, Some, IfOk, OnOk, OnErr, MatchOption};
 ghost use Rattle.thread_cct.specs.Adding.{count_one, has_path};
 ghost use Rattle.scope_types.specs.Raw.{same_raw};
 ghost use Rattle.thread_cct.specs.private.Fields.{IsPathAt};
 
 use indexmap::IndexMap;
+use indexmap::map::Entry;
 use prof_bytes::Memory;
 use scope_types::RawPath;
 use std::alloc::Global;
@@ -51,22 +52,6 @@ fn is_same(raw: &RawPath, other: &RawPath) -> bool
         ([frame], [only]) => raw.end() == other.end() && frame == only,
         _ => raw == other,
     }
-}
-
-/// A copy of a table's paths and counts.
-#[tactic(auto, using(crate::proofs::Copying::copying_steps))]
-fn copied_counts(
-    alloc: Global,
-    counts: &IndexMap<RawPath, u32>,
-) -> Result<IndexMap<RawPath, u32>, Memory>
-    ensures { IfOk result (λ copies. copies.entries ≡ counts.now.entries) }
-{
-    let mut copies = IndexMap::new(alloc);
-    for index in 0..counts.len() {
-        let (path, count) = counts.get_index(index).unwrap();
-        copies.insert(path.copy()?, *count)?;
-    }
-    Ok(copies)
 }
 
 impl PathTable {
@@ -140,33 +125,21 @@ impl PathTable {
         Ok(())
     }
 
-    /// A copy of the paths with their counts.
-    pub fn copy(&self, alloc: Global) -> Result<PathTable, Memory>
-        ensures { IfOk result (λ copy. copy ≡ self.now) }
-    {
-        Ok(PathTable {
-            counts: copied_counts(alloc, &self.counts)?,
-            recent: [0; RECENT],
-        })
-    }
-
-    /// Whether a path is there.
+    /// Puts a path last, with its count, where it is new, and says whether it is.
     #[tactic(auto, using(crate::proofs::Putting::entry_put))]
-    pub fn has(&self, raw: &RawPath) -> bool
-        ensures { result ≡ has_path raw.now self.now }
-    {
-        self.counts.contains_key(raw)
-    }
-
-    /// Puts a new path last, with its count.
-    #[tactic(auto, using(crate::proofs::Putting::entry_put))]
-    pub fn put_counted(&mut self, raw: RawPath, count: u32) -> Result<(), Memory>
-        requires { has_path raw self.old ≡ false }
-        ensures ok { OnOk result (self.new ≡ self.old ++ record { path = raw; count = count } ∷ []) }
+    pub fn put_new(&mut self, raw: RawPath, count: u32) -> Result<bool, Memory>
+        ensures found { IfOk result (λ is_new. is_new ≡ not (has_path raw self.old)) }
+        ensures put { IfOk result (λ is_new. self.new
+            ≡ (if is_new then self.old ++ record { path = raw; count = count } ∷ [] else self.old)) }
         ensures err { OnErr result (self.new ≡ self.old) }
     {
-        self.counts.insert(raw, count)?;
-        Ok(())
+        match self.counts.entry(raw)? {
+            Entry::Occupied(_) => Ok(false),
+            Entry::Vacant(place) => {
+                place.insert(count);
+                Ok(true)
+            }
+        }
     }
 
     /// The path at an index, and its count.

@@ -15,8 +15,9 @@ use Rattle.scope_types.specs.declared.frame.Frame.{Frame}
 use Rattle.scope_types.specs.Limits.{most_frames_in_all, most_frames_of_path}
 use Rattle.scope_types.specs.Raw.{Raw, same_raw}
 use Rattle.scope_types.specs.private.SameRaw.{raw_equiv}
-use Rattle.measure_file.specs.Reading.{is_end_number, is_length, path_end}
-use Rattle.measure_file.specs.Spelling.{end_number, frame_bytes}
+use Rattle.measure_file.specs.Reading.{is_end_number, is_length}
+use Rattle.scope_types.specs.Ends.{end_number, end_of_number}
+use Rattle.measure_file.specs.Spelling.{frame_bytes}
 use Rattle.trace_lines.specs.declared.fault.TraceFault.{TraceFault}
 use Rattle.trace_lines.specs.Traces.{HasAddress, has_raw}
 use Rattle.trace_lines.specs.Fields.{fault_at, long_from, starting_at, word_by, word_from}
@@ -92,7 +93,7 @@ length_rule before n e =
     let first = and_parts _ _ parts.0 in
     (leb-true 1 n first.0, leb-true n most_frames_of_path first.1, leb-true (before + n) most_frames_in_all parts.1)
 
-end_again : (n : ℕ) → is_end_number n ≡ true → end_number (path_end n) ≡ n
+end_again : (n : ℕ) → is_end_number n ≡ true → end_number (end_of_number n) ≡ n
 end_again zero e = refl
 end_again (suc zero) e = refl
 end_again (suc (suc zero)) e = refl
@@ -117,7 +118,7 @@ path_back frames before at next new bytes is =
     let f = bind_ok (times (adding traced_frame_from) b.value 0 [] b.next) _ _ b.is in
     let own : List Frame = f.0.0 in
     let read = frames_back b.value own b.next f.0.1 b.bytes f.1 in
-    let raw : Raw = record { end = path_end a.value; frames = own } in
+    let raw : Raw = record { end = end_of_number a.value; frames = own } in
     let p = bind_ok (new_path b.next.offset raw before) _ _ f.2 in
     let g = guard_ok (has_raw raw before) (fault_at b.next.offset) (Ok (before ++ raw ∷ [])) p.0 p.1 in
     let long : length own ≡ b.value = ap (λ (fs : List Frame). length fs) read.is ∙ read.many in

@@ -17,8 +17,9 @@ use Rattle.scope_types.specs.declared.frame.PartialCause.TheVariants.{NoFde, NoC
 use Rattle.scope_types.specs.Limits.{most_frames_in_all, most_frames_of_path}
 use Rattle.scope_types.specs.Raw.{HasFrames, Raw, same_raw}
 use Rattle.scope_types.specs.private.SameRaw.{raw_equiv}
-use Rattle.measure_file.specs.Reading.{is_end_number, is_length, path_end}
-use Rattle.measure_file.specs.Spelling.{end_number, frame_bytes}
+use Rattle.measure_file.specs.Reading.{is_end_number, is_length}
+use Rattle.scope_types.specs.Ends.{end_number, end_of_number}
+use Rattle.measure_file.specs.Spelling.{frame_bytes}
 use Rattle.trace_lines.specs.Traces.{HasAddress, has_raw}
 use Rattle.trace_lines.specs.Fields.{fault_at, long_from, starting_at, word_by, word_from}
 use Rattle.trace_lines.specs.Reading.{frames_of_paths, new_path, traced_frame_from, traced_path_from, traced_paths_from}
@@ -50,7 +51,7 @@ frames_forth frames at rest addresses left =
 
 -- ---- raw paths
 
-end_back : (end : End) → path_end (end_number end) ≡ end
+end_back : (end : End) → end_of_number (end_number end) ≡ end
 end_back Whole = refl
 end_back (Partial NoFde) = refl
 end_back (Partial NoCfa) = refl
@@ -66,7 +67,7 @@ end_few (Partial Expression) = omega arith
 end_few (Partial Unmapped) = omega arith
 end_few (Partial Depth) = omega arith
 
-put_forth : (before : List Raw) (raw : Raw) (offset : ℕ) → has_raw raw before ≡ false → new_path offset (record { end = path_end (end_number raw.end); frames = raw.frames }) before ≡ Ok (before ++ raw ∷ [])
+put_forth : (before : List Raw) (raw : Raw) (offset : ℕ) → has_raw raw before ≡ false → new_path offset (record { end = end_of_number (end_number raw.end); frames = raw.frames }) before ≡ Ok (before ++ raw ∷ [])
 put_forth before raw offset new =
     ap (λ (end : End). new_path offset (record { end = end; frames = raw.frames }) before) (end_back raw.end)
     ∙ ap (λ (b : Bool). cond b (Err (fault_at offset)) (Ok (before ++ raw ∷ []))) new

@@ -6,7 +6,8 @@ use Rattle.std.proofs.lemmas.List.Sums.{sum_by-cons}
 use Rattle.prof_bytes.specs.Number.{number_bytes, word}
 use Rattle.scope_types.specs.declared.frame.Frame.{Frame}
 use Rattle.scope_types.specs.Raw.{Raw}
-use Rattle.measure_file.specs.Spelling.{end_number, frame_bytes}
+use Rattle.scope_types.specs.Ends.{end_number}
+use Rattle.measure_file.specs.Spelling.{frame_bytes}
 use Rattle.trace_lines.specs.Traces.{HartTrace, IsTrace, Traced, distinct_paths, frames_traced, samples_traced}
 use Rattle.trace_lines.specs.Reading.{frames_of_paths}
 use Rattle.trace_lines.specs.Spelling.{hart_bytes, place_among, places_bytes, trace_head_bytes, trace_limit, trace_spelling, traced_path_bytes, traced_paths_bytes}

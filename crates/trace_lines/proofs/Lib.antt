@@ -3,6 +3,7 @@ mod Distinct
 mod Places
 mod Kept
 mod Sums
+mod Fullness
 mod HartSums
 mod Forth
 mod ForthSamples

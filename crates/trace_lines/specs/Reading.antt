@@ -9,7 +9,8 @@ use Rattle.scope_types.specs.declared.frame.Frame.{Frame}
 use Rattle.scope_types.specs.declared.frame.End.TheVariants.{Whole}
 use Rattle.scope_types.specs.Limits.{most_samples}
 use Rattle.scope_types.specs.Raw.{Raw}
-use Rattle.measure_file.specs.Reading.{is_end_number, is_harts, is_length, is_period, path_end}
+use Rattle.scope_types.specs.Ends.{end_of_number}
+use Rattle.measure_file.specs.Reading.{is_end_number, is_harts, is_length, is_period}
 use Rattle.trace_lines.specs.declared.fault.TraceFault.{TraceFault}
 use Rattle.trace_lines.specs.Fields.{TraceRead, fault_at, starting_at, word_from, word_by, long_from}
 use Rattle.trace_lines.specs.Spelling.{trace_magic}
@@ -48,7 +49,7 @@ traced_path_from frames before at = do
   (end, next) ← word_by is_end_number at
   (length, first_pc) ← word_by (is_length (frames + frames_of_paths before)) next
   (own, next) ← times (adding traced_frame_from) length 0 [] first_pc
-  paths ← new_path first_pc.offset (record { end = path_end end; frames = own }) before
+  paths ← new_path first_pc.offset (record { end = end_of_number end; frames = own }) before
   Ok (paths, next)
 
 -- the raw paths of a hart, their number before them

@@ -3,7 +3,8 @@ use Rattle.std.specs.Prelude.{ℕ, List, ◌++◌, length, codes}
 use Rattle.std.specs.List.{flat_map, position_or_len}
 use Rattle.prof_bytes.specs.Number.{number_bytes, word}
 use Rattle.scope_types.specs.Raw.{Raw, same_raw}
-use Rattle.measure_file.specs.Spelling.{end_number, frame_bytes}
+use Rattle.scope_types.specs.Ends.{end_number}
+use Rattle.measure_file.specs.Spelling.{frame_bytes}
 use Rattle.trace_lines.specs.Traces.{HartTrace, Traced, distinct_paths}
 
 -- what a file begins with

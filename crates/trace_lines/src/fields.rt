@@ -3,14 +3,14 @@ ghost use Rattle.std.specs.Prelude.{◌≡◌, ◌+◌, ◌≤◌, ◌<◌, leng
 ghost use Rattle.prof_bytes.specs.Outcome.{GivesAt, GivesFrom};
 ghost use Rattle.prof_bytes.specs.Repeated.{adding, times};
 ghost use Rattle.scope_types.specs.Limits.{most_frames_in_all, most_frames_of_path, most_harts, most_samples};
-ghost use Rattle.measure_file.specs.Reading.{is_end_number, is_harts, is_length, is_period, path_end};
+ghost use Rattle.measure_file.specs.Reading.{is_end_number, is_harts, is_length, is_period};
 ghost use Rattle.trace_lines.specs.Fields.{long_from, word_from, word_by};
 ghost use Rattle.trace_lines.specs.Reading.{is_place, is_sample_count, traced_frame_from};
 
 use crate::fault::TraceFault;
 use prof_bytes::{Cursor, Fail};
+use scope_types::Frame;
 use scope_types::limits::{MOST_FRAMES_IN_ALL, MOST_FRAMES_OF_PATH, MOST_HARTS, MOST_SAMPLES};
-use scope_types::{End, Frame, PartialCause};
 use std::alloc::Global;
 
 pub(crate) fn fault_at(offset: usize) -> TraceFault
@@ -64,19 +64,6 @@ pub(crate) fn read_count_of_harts(cursor: &mut Cursor<'_>) -> Result<u32, TraceF
         return Err(fault_at(offset));
     }
     Ok(harts)
-}
-
-pub(crate) fn path_end(number: u32) -> End
-    ensures { result ≡ path_end number }
-{
-    match number {
-        0 => End::Whole,
-        1 => End::Partial(PartialCause::NoFde),
-        2 => End::Partial(PartialCause::NoCfa),
-        3 => End::Partial(PartialCause::Expression),
-        4 => End::Partial(PartialCause::Unmapped),
-        _ => End::Partial(PartialCause::Depth),
-    }
 }
 
 /// The number of a path's end.

@@ -20,7 +20,7 @@ mod trace;
 mod write;
 
 pub use fault::TraceFault;
-pub use laws::{trace_read_is_written, trace_written_is_read};
+pub use laws::{frames_are_of_distinct_paths, trace_read_is_written, trace_written_is_read};
 pub use read::read_trace;
 pub use text::timeline;
 pub use trace::{Trace, TraceFull};

@@ -16,15 +16,15 @@ ghost use Rattle.trace_lines.specs.private.Paths.{samples_read};
 
 use crate::fault::TraceFault;
 use crate::fields::{
-    fault_at, path_end, read_count_of_harts, read_end, read_frames, read_length, read_long,
-    read_period, read_place, read_sample_count, read_word,
+    fault_at, read_count_of_harts, read_end, read_frames, read_length, read_long, read_period,
+    read_place, read_sample_count, read_word,
 };
 use crate::harts::Harts;
 use crate::paths::HartPaths;
 use crate::trace::Trace;
 use indexmap::IndexSet;
 use prof_bytes::{Cursor, Fail};
-use scope_types::RawPath;
+use scope_types::{End, RawPath};
 use std::alloc::Global;
 
 /// The distinct raw paths of a hart that were read so far, and how many frames these and those of the harts before
@@ -86,7 +86,7 @@ fn read_path(
     let length = read_length(cursor, frames)?;
     let first_pc = cursor.place();
     let own = read_frames(alloc, cursor, length)?;
-    put_path(paths, RawPath::of(path_end(end), own), first_pc)?;
+    put_path(paths, RawPath::of(End::of_number(end), own), first_pc)?;
     Ok(frames + length)
 }
 

@@ -1,7 +1,7 @@
 //! A trace as bytes.
 ghost use Rattle.std.specs.Prelude.{◌≡◌, ◌<◌, ◌≤◌, ◌++◌, length, IfOk, OnOk};
 ghost use Rattle.std.specs.List.{flat_map};
-ghost use Rattle.measure_file.specs.Spelling.{end_number, frame_bytes};
+ghost use Rattle.measure_file.specs.Spelling.{frame_bytes};
 ghost use Rattle.trace_lines.specs.Traces.{AreFinished, IsTrace, distinct_paths, hart_in};
 ghost use Rattle.trace_lines.specs.Spelling.{hart_bytes, place_among, places_bytes, trace_head_bytes, trace_limit};
 ghost use Rattle.trace_lines.specs.Spelling.{trace_spelling, traced_path_bytes, traced_paths_bytes};
@@ -10,21 +10,8 @@ ghost use Rattle.prof_bytes.specs.Number.{word};
 use crate::paths::HartPaths;
 use crate::trace::Trace;
 use prof_bytes::{Memory, Text, put_u32, put_u64};
-use scope_types::{End, Frame, PartialCause, RawPath};
+use scope_types::{Frame, RawPath};
 use std::alloc::Global;
-
-fn end_number(end: End) -> u32
-    ensures { result ≡ end_number end }
-{
-    match end {
-        End::Whole => 0,
-        End::Partial(PartialCause::NoFde) => 1,
-        End::Partial(PartialCause::NoCfa) => 2,
-        End::Partial(PartialCause::Expression) => 3,
-        End::Partial(PartialCause::Unmapped) => 4,
-        End::Partial(PartialCause::Depth) => 5,
-    }
-}
 
 fn put_frames(out: &mut Vec<u8>, frames: &[Frame]) -> Result<(), Memory>
     ensures { OnOk result (out.new.items ≡ out.old.items ++ flat_map frame_bytes frames.now) }
@@ -39,7 +26,7 @@ fn put_path(out: &mut Vec<u8>, raw: &RawPath) -> Result<(), Memory>
     ensures { OnOk result (out.new.items ≡ out.old.items ++ traced_path_bytes raw.now) }
 {
     let frames = raw.frames();
-    put_u32(out, end_number(raw.end()))?;
+    put_u32(out, raw.end().number())?;
     put_u32(out, frames.len() as u32)?;
     put_frames(out, frames)?;
     Ok(())

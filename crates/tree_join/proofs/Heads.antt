@@ -1,9 +1,9 @@
 -- The nodes that are next in walks, and which of them is first.
-use Rattle.std.proofs.Common.{◌≡◌, ℕ, ◌+◌, ◌<◌, ◌≤◌, ◌==◌, ◌||◌, ◌&&◌, ◌⊎◌, nat_lt, inl, inr, Bool, true, false, List, [], ◌∷◌, ◌++◌, length, AllPairs, Less, Equal, Greater, Ordering, refl, sym, ap, ap₂, subst, ◌∙◌, arith, true≢false}
+use Rattle.std.proofs.Common.{◌≡◌, ℕ, ◌+◌, ◌<◌, ◌≤◌, ◌==◌, ◌||◌, ◌&&◌, ◌⊎◌, nat_lt, inl, inr, Bool, true, false, cond, List, [], ◌∷◌, ◌++◌, length, AllPairs, Less, Equal, Greater, Ordering, refl, sym, ap, ap₂, subst, ◌∙◌, arith, true≢false}
 use Rattle.std.specs.Ordering.{is_lt, ordering_reverse}
+use Rattle.std.proofs.Math.Nat.{mod-eq_of_lt}
 use Rattle.std.proofs.lemmas.Bool.{cases_order, eq-eqb, ne_eqb, lt-ltb, le-ltb}
 use Rattle.scope_types.specs.declared.scope.Scope.{Scope}
-use Rattle.scope_types.specs.Limits.{most_scopes_in_all}
 use Rattle.scope_types.specs.Order.{scope_order, path_order}
 use Rattle.scope_types.proofs.Orders.{scope_order_total, scope_order_tells}
 use Rattle.tree_types.specs.declared.content.Node.{Node}
@@ -13,7 +13,7 @@ use Rattle.tree_types.specs.PathsOf.{tree_paths, path_below}
 use Rattle.tree_types.proofs.PathSteps.{as_many_paths}
 use Rattle.path_trie.specs.Trie.{IsIndex, path_at}
 use Rattle.path_trie.specs.private.Linked.{next_index, node_with}
-use Rattle.path_trie.proofs.Places.{next_of, path_none, path_some, place_cases}
+use Rattle.path_trie.proofs.Places.{path_none, place_cases}
 use Rattle.tree_join.specs.private.Walk.{path_or_none, node_before}
 use Rattle.tree_join.proofs.Parting.{between, parts_less, siblings_part, parts_same}
 
@@ -89,18 +89,26 @@ none_earlier h n f e g =
 
 -- ---- their paths
 
+-- the index right after a node's
+next_of_node : (p : ℕ) → p < no_parent → next_index p ≡ p + 1
+next_of_node p lt = mod-eq_of_lt (omega arith)
+
+-- the path of a node
+path_of_node : (paths : List Path) (p : ℕ) → p < no_parent → path_at paths p ≡ path_or_none paths p
+path_of_node paths p lt = ap (λ b. cond b [] (path_or_none paths p)) (ne_eqb p no_parent (λ e. absurd (omega arith)))
+
 -- a node that is next, and its path
 pub record Next (order : List Node) (n : Node) (own : Path) : Type 0 where
   pub index : IsIndex n.parent (length order)
   pub path : path_below (tree_paths order) n ≡ own
   pub ahead : (i : ℕ) → i < length order → path_order (path_or_none (tree_paths order) i) own ≡ Less
 
-module _ (order : List Node) (ascend : AllPairs (λ a b. path_order a b ≡ Less) (tree_paths order)) (some : (i : ℕ) → i < length order → path_or_none (tree_paths order) i ≡ [] → ⊥) (few : length order ≤ most_scopes_in_all) where
+module _ (order : List Node) (ascend : AllPairs (λ a b. path_order a b ≡ Less) (tree_paths order)) (some : (i : ℕ) → i < length order → path_or_none (tree_paths order) i ≡ [] → ⊥) (few : length order < no_parent) where
   abbrev done : List Path
   done = tree_paths order
 
   place_is : (p : ℕ) → IsIndex p (length order) → ((p ≡ no_parent) × (next_index p ≡ 0)) ⊎ ((p < length order) × (next_index p ≡ p + 1))
-  place_is p index = elim (place_cases p (length order) index) [ inl e ↦ inl (e, ap next_index e) | inr lt ↦ inr (lt, next_of p (omega arith)) ]
+  place_is p index = elim (place_cases p (length order) index) [ inl e ↦ inl (e, ap next_index e) | inr lt ↦ inr (lt, next_of_node p (omega arith)) ]
 
   same_index : (p q : ℕ) → IsIndex p (length order) → IsIndex q (length order) → next_index p ≡ next_index q → p ≡ q
   same_index p q p_place q_place e =
@@ -116,7 +124,7 @@ module _ (order : List Node) (ascend : AllPairs (λ a b. path_order a b ≡ Less
           | inl root ↦ ap (λ (x : Path). path_order x (path_or_none done a.parent)) (path_none done b.parent root.0) ∙ from_none (path_or_none done a.parent) (some a.parent lt)
           | inr inner ↦
               let inner_lt = inner.0 in let inner_next = inner.1 in
-              ap (λ (x : Path). path_order x (path_or_none done a.parent)) (path_some done b.parent (omega arith)) ∙ ascend b.parent a.parent [] (omega arith) (let long = as_many_paths order in omega arith)
+              ap (λ (x : Path). path_order x (path_or_none done a.parent)) (path_of_node done b.parent (omega arith)) ∙ ascend b.parent a.parent [] (omega arith) (let long = as_many_paths order in omega arith)
         ]
       where
         from_none : (x : Path) → (x ≡ [] → ⊥) → path_order [] x ≡ Less
@@ -130,7 +138,7 @@ module _ (order : List Node) (ascend : AllPairs (λ a b. path_order a b ≡ Less
           | inr inner ↦
               let lt = inner.0 in
               parts_less a_path b_path (parts_same a_path b_path (path_or_none done a.parent ++ a.scope ∷ []) (path_at done b.parent ++ b.scope ∷ [])
-              (sym a_next.path ∙ ap (λ (x : Path). x ++ a.scope ∷ []) (path_some done a.parent (omega arith))) (sym b_next.path)
+              (sym a_next.path ∙ ap (λ (x : Path). x ++ a.scope ∷ []) (path_of_node done a.parent (omega arith))) (sym b_next.path)
               (between (path_at done b.parent) (path_or_none done a.parent) b.scope (a.scope ∷ []) (parent_up lt inner.1 less) (ap (path_order (path_or_none done a.parent)) b_next.path ∙ b_next.ahead a.parent lt)))
         ]
 

@@ -142,7 +142,7 @@ module _ (order : List Node) (w : Walker) (is : IsWalker order w) where
     leads_head None e l j lt = (let none = none_left e in absurd (omega arith))
     leads_head (Some h) e l j lt =
         let top = top_of h e in
-        let first : path_order own (path_or_none paths top.index) ≡ Less = leads order ascend some few n h own (path_or_none paths top.index) next (next_is h e) l in
+        let first : path_order own (path_or_none paths top.index) ≡ Less = leads order ascend some (omega arith) n h own (path_or_none paths top.index) next (next_is h e) l in
         elim (last_cases j (length stack - 1) (omega arith)) [
           | inl less ↦
               path_order_total.trans own (path_or_none paths top.index) (path_or_none paths (get_or stack j 0)) first
@@ -228,7 +228,7 @@ module _ (parts : List (List Entry)) (walkers : List Walker) (order : List Node)
         by_head : (o : Option Node) → head_node u ≡ o → IfSome o (λ h. node_before h n ≡ false) → IfSome o (λ h. node_before n h ≡ true)
         by_head None at l = tt
         by_head (Some h) at l =
-            first_of_two order is.ascend some_path order_few n h own (next_path order u (is.each i e i_lt) h at) next (next_is order u (is.each i e i_lt) h at) l (λ same. apart (at ∙ ap Some same))
+            first_of_two order is.ascend some_path (let few = order_few in omega arith) n h own (next_path order u (is.each i e i_lt) h at) next (next_is order u (is.each i e i_lt) h at) l (λ same. apart (at ∙ ap Some same))
 
     module _ (new : List Walker) (long : length new ≡ length walkers) (each : (i : ℕ) (e : Walker) → i < length walkers → Moves (get_or walkers i e) (get_or new i e)) where
       pub moved : Walking parts new order_new

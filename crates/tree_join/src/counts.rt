@@ -80,13 +80,22 @@ fn add_up(alloc: Global, counts: &[NodeCount]) -> Result<Vec<NodeCount>, Memory>
     Ok(sums)
 }
 
+/// Counts of nodes and columns, those of one node and column added up, in order.
+pub fn added_up(alloc: Global, counts: Vec<NodeCount>) -> Result<Vec<NodeCount>, Memory>
+    requires few { counts_in counts.items ≤ most_samples }
+    ensures { IfOk result (λ sums. AreSums counts.items sums.items) }
+{
+    let mut sorted = counts;
+    sort(&mut sorted);
+    add_up(alloc, sorted.as_slice())
+}
+
 /// The counts of the ends of all tries that were walked over, those of each node and column added up, in order.
 pub fn summed(alloc: Global, walkers: &[Walker]) -> Result<Vec<NodeCount>, Memory>
     requires indices { All HasIndices walkers.now }
     requires few { counts_in (all_counts walkers.now) ≤ most_samples }
     ensures { IfOk result (λ sums. AreSums (all_counts walkers.now) sums.items) }
 {
-    let mut counts = numbered_counts(alloc, walkers)?;
-    sort(&mut counts);
-    add_up(alloc, counts.as_slice())
+    let counts = numbered_counts(alloc, walkers)?;
+    added_up(alloc, counts)
 }

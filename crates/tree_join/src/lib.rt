@@ -13,6 +13,7 @@ mod stripes;
 mod walk;
 mod walker;
 
+pub use counts::added_up;
 pub use join::{join_trie, join_tries};
 pub use laws::{stripes_hold_the_samples, stripes_hold_their_pieces};
 pub use stripes::join_stripes;

@@ -94,7 +94,7 @@ fn are_appended(
     let (before, after) = (u32::from(first.0), u32::from(second.0));
     let mut ccts = counted(alloc, before, first.1)?;
     let other = counted(alloc, after, second.1)?;
-    ccts.append(&other)?;
+    ccts.append(other)?;
     Ok(ccts.columns() == before + after && paths(alloc, &ccts)?.as_slice() == wanted)
 }
 
@@ -136,9 +136,9 @@ fn deep(alloc: Global, paths: u32) -> Result<Ccts, Fail<TooManyFrames>>
 }
 
 /// Whether other columns may follow, and how many columns there are then.
-fn appended(ccts: &mut Ccts, other: &Ccts) -> Result<(bool, u32), Memory>
-    requires columns { length ccts.old + length other.now < 2 ^ 32 }
-    requires samples { samples_in ccts.old + samples_in other.now ≤ most_samples }
+fn appended(ccts: &mut Ccts, other: Ccts) -> Result<(bool, u32), Memory>
+    requires columns { length ccts.old + length other < 2 ^ 32 }
+    requires samples { samples_in ccts.old + samples_in other ≤ most_samples }
 {
     let is_taken = match ccts.append(other) {
         Ok(()) => true,
@@ -151,7 +151,7 @@ fn appended(ccts: &mut Ccts, other: &Ccts) -> Result<(bool, u32), Memory>
 /// 4096 paths of 512 frames behind as many, which have 4,194,304 frames together.
 fn at_the_limit(alloc: Global) -> Result<(bool, u32), Fail<TooManyFrames>> {
     let mut ccts = deep(alloc, 4096)?;
-    Ok(appended(&mut ccts, &deep(alloc, 4096)?)?)
+    Ok(appended(&mut ccts, deep(alloc, 4096)?)?)
 }
 
 /// The same with one more path, of one frame.
@@ -161,7 +161,7 @@ fn above_the_limit(alloc: Global) -> Result<(bool, u32), Fail<TooManyFrames>> {
     let mut frame = Vec::new(alloc);
     frame.push(Frame { pc: 4 })?;
     other.add(0, &RawPath::of(End::Whole, frame))?;
-    Ok(appended(&mut ccts, &other)?)
+    Ok(appended(&mut ccts, other)?)
 }
 
 #[test]

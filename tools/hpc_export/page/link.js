@@ -1,6 +1,6 @@
 // The page's state in the fragment of its address, so that a link shows what was seen: event, harts, filters, graph,
-// zoom, the selected node, table, sorting, the selected row, search, least share, the line of a source, bars. What is as at
-// the start is left out. Node numbers are those of this export.
+// zoom, the selected node, table, sorting, the selected row, search, least share, the line of a source, bars, the
+// timeline's depth and instructions. What is as at the start is left out. Node numbers are those of this export.
 
 class Link {
   constructor() {
@@ -19,7 +19,8 @@ class Link {
   }
 
   text() {
-    const {icicle, grid, shown, source, edges, bars} = view, {graph} = icicle, {column, down} = grid.sort;
+    const {icicle, grid, shown, source, edges, bars, timeline} = view, {graph} = icicle, {column, down} = grid.sort;
+    const {trace} = timeline, isAll = !trace || timeline.to - timeline.from === trace.span;
     const node = at => at === graph.count ? undefined : at;
     const words = {
       event: shown.event === profile.event ? undefined : profile.events[shown.event].name,
@@ -38,6 +39,8 @@ class Link {
       source: !view.isSourceShown ? view.isSourceMoved ? "off" : undefined
         : view.isSourceMoved || source.place !== source.start ? source.place : undefined,
       bars: bars.isSeveral && bars.element.hidden ? "off" : bars.isByRun ? "runs" : undefined,
+      depth: !trace || timeline.depth === timeline.first ? undefined : timeline.depth,
+      time: isAll ? undefined : `${Math.round(timeline.from)}.${Math.round(timeline.to)}`,
       panes: edges.some(edge => edge.isMoved) ? edges.map(edge => Math.round(100 * edge.share)).join(".") : undefined,
     };
     const pairs = Object.entries(words).filter(([, value]) => value !== undefined);
@@ -91,5 +94,13 @@ class Link {
     if (Array.isArray(orders) && orders.length) grid.follow(orders);
     else if (isNode(number("node"))) view.follow(number("node"));
     if (file >= 0) source.goTo(file, line, false);
+    this.restoreTimeline(words, number);
+  }
+
+  restoreTimeline(words, number) {
+    const {timeline} = view, [from, to] = (words.time || "").split(".").map(Number);
+    if (!timeline.trace) return;
+    timeline.setDepth(number("depth") >= 1 ? Math.round(number("depth")) : timeline.first);
+    if (to > from) timeline.show(from, to); else timeline.show(0, timeline.trace.span);
   }
 }

@@ -17,8 +17,10 @@ const READERS = {
 
 async function main() {
   const names = JSON.parse(document.getElementById("names").textContent);
-  const [columns, texts] = [await unpacked("columns"), await unpacked("texts")];
-  view = new View(READERS[names.version](names, await columns.arrayBuffer()), await texts.json());
+  const [columns, texts, trace] = [await unpacked("columns"), await unpacked("texts"), await unpacked("trace")];
+  const base = READERS[names.version](names, await columns.arrayBuffer());
+  const timed = names.trace ? new Trace(names.trace, await trace.arrayBuffer(), base) : null;
+  view = new View(base, await texts.json(), timed);
   view.link.restore();
   view.isReady = true;
   return view;

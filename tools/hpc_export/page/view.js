@@ -12,7 +12,7 @@ const selectedOf = row => row ? {
 } : NOTHING;
 
 class View {
-  constructor(base, texts) {
+  constructor(base, texts, trace) {
     this.shown = new Shown(base);
     profile = this.shown.profile;
     view = this;
@@ -23,6 +23,7 @@ class View {
     this.source = new Source(texts);
     this.filters = new Filters();
     this.bars = new Bars();
+    this.timeline = new Timeline(trace);
     const edge = (...words) => new Edge(...words, () => this.moved());
     this.edges = [edge("edge", "--graph", "y"), edge("side-edge", "--table", "x")];
     this.procedure = base.operand[base.scope.indexOf(PROC)] || 0;
@@ -41,7 +42,7 @@ class View {
     document.getElementById("least").oninput = event => this.setLeast(percentAt(Number(event.target.value)));
     this.bindSearch(document.getElementById("search"));
     this.bindTables();
-    isDark.addEventListener("change", () => { colors.clear(); this.icicle.draw(); });
+    isDark.addEventListener("change", () => { colors.clear(); this.icicle.draw(); this.timeline.redraw(); });
     this.setSource(Object.keys(texts).length > 0 && innerWidth >= 1000, false);
   }
 
@@ -344,9 +345,9 @@ class View {
     this.icicle.select(node, {leads: false});
   }
 
-  // The bars follow once all has changed.
+  // The bars and the timeline follow once all has changed.
   changed() {
-    if (!this.isChanged) queueMicrotask(() => { this.isChanged = false; this.bars.show(); });
+    if (!this.isChanged) queueMicrotask(() => { this.isChanged = false; this.bars.show(); this.timeline.mark(); });
     this.isChanged = true;
     if (this.isReady) this.link.write();
   }

@@ -1,5 +1,5 @@
 -- `prof` as a function of its files: the database and the tables of a measurement, or the first refusal.
-use Rattle.std.specs.Prelude.{ℕ, ◌==◌, ◌&&◌, Bool, List, [], ◌∷◌, length, Result, Ok, Err, if◌then◌else◌}
+use Rattle.std.specs.Prelude.{ℕ, Bool, List, [], ◌∷◌, Result, Ok, Err, if◌then◌else◌}
 use Rattle.prof_bytes.specs.Outcome.{◌>>=◌}
 use Rattle.elf_image.specs.Image.{ProgramImage}
 use Rattle.measure_file.specs.declared.head.EventHead.{EventHead}
@@ -8,26 +8,25 @@ use Rattle.scope_types.specs.declared.event.EventPeriod.{EventPeriod}
 use Rattle.scope_types.specs.declared.frame.Counted.{Counted}
 use Rattle.scope_types.specs.Distinct.{each_sample}
 use Rattle.command_line.specs.declared.status.InputFault.{InputFault}
-use Rattle.command_line.specs.declared.status.InputFault.TheVariants.{Measurement, WrongProgram}
+use Rattle.command_line.specs.declared.status.InputFault.TheVariants.{Measurement}
 use Rattle.hpc_top.specs.Attribution.{attributed, attribution_of}
 use Rattle.hpc_top.specs.Faulted.{faulted}
 use Rattle.hpc_top.specs.Product.{Product, no_product}
-use Rattle.hpc_top.specs.Program.{program}
+use Rattle.hpc_top.specs.Program.{is_same_program, program, wrong_program}
 use Rattle.hpc_top.specs.Scopes.{program_scopes}
 
 -- the measurement, or the first fault of its file
 abbrev pub measurement : List ℕ → Result (EventHead × List (List Counted)) InputFault
 measurement bytes = faulted (λ fault. Measurement fault.offset) (event_measurement_in bytes)
 
--- whether a measurement is one of this program: the length of its file and its entry are the same
+-- whether a measurement is one of this program
 abbrev pub is_of_program : ProgramImage → EventHead → Bool
-is_of_program image head = head.length == length image.file && head.entry == image.entry
+is_of_program image head = is_same_program image head.length head.entry
 
 -- the measurement is one of this program
 abbrev pub of_program : ProgramImage → EventHead → Result EventHead InputFault
 of_program image head =
-    if is_of_program image head then Ok head
-    else Err (WrongProgram head.length head.entry (length image.file) image.entry)
+    if is_of_program image head then Ok head else Err (wrong_program image head.length head.entry)
 
 -- the product of a program and the samples that measurements count, each raw path as often as it is counted, where
 -- these are the events and the harts of each run, and the columns of all runs come one after another; or the first

@@ -9,12 +9,15 @@ use Rattle.scope_types.specs.declared.scope.Scope.{Scope}
 use Rattle.scope_types.specs.Alike.{Alike}
 use Rattle.scope_types.specs.CallPaths.{ColumnPath}
 use Rattle.scope_types.specs.Distinct.{scopes_in}
-use Rattle.scope_types.specs.Limits.{most_harts, most_runs, most_scopes_in_all}
+use Rattle.scope_types.specs.Limits.{most_harts, most_runs, most_samples, most_scopes_in_all}
 use Rattle.scope_types.specs.Raw.{Raw}
 use Rattle.stripe_table.specs.Ends.{named_paths}
 use Rattle.thread_cct.specs.Plan.{Planned, plan_of}
 use Rattle.tree_types.specs.declared.content.EventContent.{EventContent}
+use Rattle.tree_types.specs.Database.{node_list}
+use Rattle.tree_types.specs.Nodes.{nodes as nodes_of, no_parent}
 use Rattle.tree_types.specs.OfContent.{content_of_event, content_table}
+use Rattle.tree_types.specs.Tree.{CountedTree, paths_in}
 use Rattle.merge_crew.specs.Merged.{IsOfPlan, IsWhole}
 use Rattle.hpc_top.specs.declared.merged.Merged.{Merged}
 use Rattle.command_line.specs.declared.status.InputFault.{InputFault}
@@ -27,6 +30,17 @@ pub record AreRuns (runs : List ℕ) : Type 0 where
   pub some : 1 ≤ length runs
   pub few : length runs ≤ most_runs
   pub harts : All (λ h. (0 < h) × (h ≤ most_harts)) runs
+
+-- a tree of so many columns has the nodes of these call paths, and they end in it. Each has scopes and is of one of the
+-- columns, and they are no more than there may be
+pub record IsTreeOf (most : ℕ) (ps : List ColumnPath) (tree : CountedTree) : Type 0 where
+  pub columns : tree.columns ≡ most
+  pub nodes : tree.nodes ≡ node_list ps
+  pub few : length (nodes_of ps) ≤ no_parent
+  pub paths : Alike (paths_in tree) ps
+  pub samples : length ps ≤ most_samples
+  pub some : All (λ p. 0 < length p.path) ps
+  pub below : All (λ p. p.column < most) ps
 
 -- the plan of counted samples, unless their call paths have too many scopes
 abbrev pub few_planned : (Raw → List Scope) → List (List Counted) → Result Planned InputFault

@@ -14,7 +14,6 @@ ghost use Rattle.hpc_top.specs.private.Counting.{IsCount};
 ghost use Rattle.hpc_top.specs.private.Products.{drill_or};
 
 use crate::commands::profile::Job;
-use crate::events::retired_every;
 use crate::product::{Product, nothing, text_alone};
 use crate::profiling::{ProfiledRun, profile_run};
 use command_line::InputFault;
@@ -24,6 +23,7 @@ use prof_bytes::{Fail, Memory, Text};
 use prof_db::{event_profiles_are_writable, write_events};
 use prof_devices::Gate;
 use run_report::{all_retired, all_samples, drill_lines};
+use scope_types::EventPeriod;
 use std::alloc::Global;
 use std::thread::Threads;
 use tree_types::{counts_decide, event_content_holds_its_paths, event_paths_are_paths};
@@ -88,7 +88,7 @@ fn drill_guest<R: Threads + Sync + AllocGlobal, C: Crews>(
     ensures { Gives (λ p. p) result (drill_product number) }
 {
     let files = guest(rt.alloc(), number)?;
-    let periods = [retired_every(files.period)];
+    let periods = [EventPeriod::retired(files.period)];
     let job = Job {
         elf: files.elf.bytes(),
         input: files.input.bytes(),

@@ -12,7 +12,7 @@ ghost use Rattle.hpc_top.specs.private.Steps.{AreWithin};
 use crate::attribution::attribute_code;
 use crate::merged::Merge;
 use crate::product::{Product, nothing};
-use crate::program::program_of;
+use crate::program::{is_same_program, program_of, wrong_program};
 use crate::refusal::as_input;
 use command_line::InputFault;
 use elf_image::Image;
@@ -42,7 +42,7 @@ fn measured(alloc: Global, bytes: &[u8]) -> Result<(EventHead, Ccts), Fail<Input
 pub fn is_of_program(image: &Image<'_>, head: &EventHead) -> bool
     ensures { result ≡ is_of_program image.now head.now }
 {
-    head.length == image.length() && head.entry == image.entry()
+    is_same_program(image, head.length, head.entry)
 }
 
 /// Refuses a measurement of another program.
@@ -52,12 +52,7 @@ fn check_program(image: &Image<'_>, head: &EventHead) -> Result<(), Fail<InputFa
     if is_of_program(image, head) {
         return Ok(());
     }
-    Err(Fail::Fault(InputFault::WrongProgram {
-        kept_length: head.length,
-        kept_entry: head.entry,
-        found_length: image.length(),
-        found_entry: image.entry(),
-    }))
+    Err(Fail::Fault(wrong_program(image, head.length, head.entry)))
 }
 
 /// What is made of a measurement of this program, or the first refusal of the program's debug information.

@@ -11,11 +11,11 @@ ghost use Rattle.hpc_top.specs.Measured.{Measured};
 ghost use Rattle.hpc_top.specs.Merged.{MakesBy, merging};
 ghost use Rattle.hpc_top.specs.commands.Profile.{profile_makes, profile_of, profiled_of};
 ghost use Rattle.hpc_top.specs.private.Counting.{IsCount};
-ghost use Rattle.hpc_top.specs.private.Profiling.{IsMadeBy};
+ghost use Rattle.hpc_top.specs.private.Profiling.{IsMadeBy, IsReportOf};
 ghost use Rattle.hpc_top.specs.private.Steps.{AreWithin};
 
 use crate::both::database_and_tables;
-use crate::counting::lines_of;
+use crate::counting::{CountedRun, lines_of};
 use crate::events::event_lines;
 use crate::merged::Merged;
 use crate::product::{Product, nothing, product_of};
@@ -28,7 +28,9 @@ use prof_devices::Gate;
 use scope_types::EventPeriod;
 use std::alloc::Global;
 use std::thread::Threads;
-use tree_types::{counts_decide, event_content_holds_its_paths, event_paths_are_paths};
+use tree_types::{
+    EventContent, counts_decide, event_content_holds_its_paths, event_paths_are_paths,
+};
 
 /// A program, its input and schedule, the events that are sampled, ascending, each with its period of at least 1, and
 /// the number of workers that merge.
@@ -39,6 +41,29 @@ pub struct Job<'a> {
     pub schedule: &'a [u8],
     pub periods: &'a [EventPeriod],
     pub workers: u32,
+}
+
+/// The database and the report of a counted run and the content of its samples.
+pub fn report_of<R: Threads + Sync>(
+    rt: &R,
+    alloc: Global,
+    events: &[EventPeriod],
+    run: CountedRun<'_>,
+    content: EventContent,
+) -> Result<Product, Memory>
+    requires events { AreEvents events.now }
+    requires profile { IsEventProfile content }
+    requires run { length content.runs ≡ 1 }
+    requires own { content.events ≡ events.now }
+    requires counted { (m : Measured) × IsCount events.now m run }
+    ensures { (m : Measured) → IsCount events.now m run.entry
+        → IfOk result (λ made. IsReportOf m content made) }
+{
+    let before = lines_of(alloc, events, &run)?;
+    let lines = event_lines(alloc, events, &run.ccts)?;
+    drop(run);
+    let (stored, text) = database_and_tables(rt, alloc, before, lines.as_slice(), content)?;
+    Ok(Product { stored, text })
 }
 
 /// The database, the report and the crew of what was profiled.
@@ -57,14 +82,12 @@ fn made_of<R: Threads + Sync>(
         → IfOk result (λ made. IsMadeBy m profiled.entry.merged made) }
 {
     let ProfiledRun { run, merged } = profiled;
-    let text = lines_of(alloc, events, &run)?;
-    let lines = event_lines(alloc, events, &run.ccts)?;
-    drop(run);
     let Merged { content, crew } = merged;
-    let (database, report) = database_and_tables(rt, alloc, text, lines.as_slice(), content)?;
+    let made = report_of(rt, alloc, events, run, content)?;
+    let Product { stored, text } = made;
     Ok(Made {
-        database,
-        report,
+        database: stored,
+        report: text,
         crew,
     })
 }

@@ -27,13 +27,29 @@ abbrev pub places_of : Bool → Option ℕ → List ℕ
 places_of true place = 0 ∷ option_to_list place
 places_of false place = option_to_list place
 
+-- the place of the first of these events
+abbrev pub first_place : Bool → Option ℕ → ℕ
+first_place true place = 0
+first_place false None = 0
+first_place false (Some place) = place
+
 -- the sample of an instruction for the event at a place, with the call path before it
 abbrev pub coming_sample : Coming → Raw → ℕ → Sample
 coming_sample c path place = record { hart = c.hart; event = place; ordinal = c.ordinal; path = path }
 
+-- the sample for the first of these events
+abbrev pub first_sample : Coming → Raw → Sample
+first_sample c path = coming_sample c path (first_place c.is_retired_due c.place)
+
 -- those for all events
 abbrev pub coming_samples : Coming → Raw → List Sample
 coming_samples c path = map (coming_sample c path) (places_of c.is_retired_due c.place)
+
+-- the sample for the second of these events, if there is one
+abbrev pub second_sample : Coming → Bool → Option ℕ → Raw → Option Sample
+second_sample c true (Some place) path = Some (coming_sample c path place)
+second_sample c true None path = None
+second_sample c false place path = None
 
 -- ---- one instruction, and several
 
@@ -91,12 +107,29 @@ pub record Ended (old new : Sampling) : Type 0 where
   pub ended : to_come old.machine ≡ finished old.machine.state
   pub same : new ≡ old
 
--- what comes next of a run was carried out: where the run goes on, at least one instruction
+-- nothing was done: the next instruction is sampled if it retires
+pub record IsSampledNext (c : Coming) (old new : Sampling) : Type 0 where
+  pub coming : IsComing c old
+  pub sampled : places_of c.is_retired_due c.place ≢ []
+  pub same : new ≡ old
+
+-- what comes next of a run, up to an instruction that is sampled if it retires: where the run goes on and no such
+-- instruction is next, at least one was carried out
 abbrev pub Advances : Paths → Result Advance Memory → Sampling → Sampling → Type 0
 Advances path_of (Ok advances.End) old new = Ended old new
 Advances path_of (Ok advances.Unsampled) old new = (q : Quiet path_of old new) × (0 < length q.passed)
-Advances path_of (Ok (advances.Sampled sample)) old new = OneSampled path_of sample old new
+Advances path_of (Ok (advances.Due coming)) old new = IsSampledNext coming old new
 Advances path_of (Err memory) old new = Quiet path_of old new
+
+-- that instruction was carried out, and the call path before it is given if it retired
+abbrev pub SamplesNext : Paths → Coming → Result (Option Raw) Memory → Sampling → Sampling → Type 0
+SamplesNext path_of c (Ok (Some path)) old new = OneSampled path_of (first_sample c path) old new
+SamplesNext path_of c (Ok None) old new = (q : Quiet path_of old new) × (0 < length q.passed)
+SamplesNext path_of c (Err memory) old new = Quiet path_of old new
+
+-- with these samples pending
+abbrev pub with_pending : List Sample → Sampling → Sampling
+with_pending pending s = record s { pending = pending }
 
 -- ---- the next sample
 

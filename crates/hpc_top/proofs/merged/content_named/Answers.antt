@@ -1,52 +1,19 @@
-use Rattle.std.proofs.Common.{◌≡◌, ◌∙◌, ◌<◌, ℕ, List, length, All, sym, ap, subst, arith}
-use Rattle.scope_find.specs.Found.{naming_of}
-use Rattle.scope_types.specs.CallPaths.{ColumnPath}
-use Rattle.scope_types.specs.Columns.{columns_of, period_of_column}
-use Rattle.scope_types.specs.Events.{periods_of}
+use Rattle.scope_types.specs.Columns.{columns_of}
 use Rattle.stripe_table.specs.Ends.{named_paths}
-use Rattle.tree_types.specs.declared.content.EventContent.{EventContent}
-use Rattle.tree_types.specs.NodeValues.{values_of}
-use Rattle.tree_types.specs.OfContent.{IsEventProfile, content_of_event, content_table}
-use Rattle.tree_types.specs.PathsOf.{tree_paths}
-use Rattle.tree_types.specs.Planes.{context_plane, profile_plane}
-use Rattle.tree_types.specs.Tree.{CountedTree, IsTree}
-use Rattle.hpc_top.proofs.Contents.{content_is, few_counts}
-use Rattle.hpc_top.proofs.FewEvents.{runs_columns}
+use Rattle.std.proofs.Common.{length}
+use Rattle.hpc_top.proofs.Contents.{tree_of}
 use Rattle.hpc_top.proofs.merged.content_named.Goals as goal
 
-pub sums-requires-clause-few : goal.sums-requires-clause-few
-sums-requires-clause-few g c =
-    few_counts c.in_ok-tree.tree (named_paths c.args.stripes.now) (c.trees_hold_paths.ensures.all c.in_ok-tree.tree) c.in_ok-tree.ensures.paths c.in_ok-tree.ensures.samples
+pub content_of_tree-requires-clause-paths : goal.content_of_tree-requires-clause-paths
+content_of_tree-requires-clause-paths g c κs within =
+    (named_paths c.args.stripes.now, tree_of c.args.columns (columns_of (length c.args.events.now) c.args.runs.now) (named_paths c.args.stripes.now) c.in_ok-tree.tree c.requires.columns c.in_ok-tree.ensures.columns c.in_ok-tree.ensures.nodes c.in_ok-tree.ensures.few c.in_ok-tree.ensures.paths c.in_ok-tree.ensures.samples c.in_ok-tree.ensures.own)
 
 pub returns-clause-content : goal.returns-clause-content
 returns-clause-content g c =
-    let ps : List ColumnPath = named_paths c.args.stripes.now in
-    let tree : CountedTree = c.in_ok-tree.tree in
-    let period : ℕ → ℕ = period_of_column (periods_of c.args.events.now) in
-    let few = c.in_ok-tree.ensures.few in
-    let ns = c.in_ok-tree.ensures.nodes in
-    let named = c.in_ok-names.ensures.paths ps (ap tree_paths ns ∙ c.trees_hold_paths.ensures.paths ps few) in
-    let sound : IsTree c.in_ok-tree.tree = subst IsTree c.tree.view_is c.tree.invariant in
-    let valued = c.in_ok-values.ensures.values ∙ ap (λ (periods : List ℕ). values_of (period_of_column periods) c.in_ok-tree.tree) (c.as_slice.ensures.value ∙ c.in_ok-periods.ensures) in
-    let planes = c.in_ok-planes.ensures.paths (period_of_column (periods_of c.args.events.now)) c.in_ok-tree.tree ps valued sound c.in_ok-tree.ensures.paths ns few in
-    let columns : c.in_ok-tree.tree.columns ≡ columns_of (length c.args.events.now) c.args.runs.now = c.in_ok-tree.ensures.columns ∙ c.requires.columns in
-    content_is c.args.events.now c.args.runs.now (naming_of c.args.expander.now) ps
-    (record { events = c.of.result; runs = c.of-2.result; names = c.in_ok-names.names; nodes = c.of-3.result; profiles = c.in_ok-planes.planes.0; contexts = c.in_ok-planes.planes.1 })
-    (c.of.ensures ∙ c.in_ok-own_events.ensures) (c.of-2.ensures ∙ c.in_ok-own_runs.ensures) named (c.of-3.ensures ∙ c.into_nodes.ensures ∙ ns)
-    (planes.0 ∙ ap (λ (n : ℕ). profile_plane (period_of_column (periods_of c.args.events.now)) n (named_paths c.args.stripes.now)) columns)
-    (planes.1 ∙ ap (λ (n : ℕ). context_plane (period_of_column (periods_of c.args.events.now)) n (named_paths c.args.stripes.now)) columns)
-
-pub returns-clause-profile : goal.returns-clause-profile
-returns-clause-profile g c =
-    let columns : c.args.columns ≡ columns_of (length c.args.events.now) c.args.runs.now = c.requires.columns in
-    let some = c.requires.runs.some in
-    subst IsEventProfile (sym (returns-clause-content g c))
-    (c.event_paths_make_a_profile.ensures c.args.events.now c.args.runs.now (naming_of c.args.expander.now) (named_paths c.args.stripes.now) c.requires.events (omega (arith, some)) c.requires.runs.harts (runs_columns c.args.events.now c.args.runs.now c.requires.events c.requires.runs) c.in_ok-tree.ensures.few c.in_ok-tree.ensures.own.0
-    (subst (λ (n : ℕ). All (λ (p : ColumnPath). p.column < n) (named_paths c.args.stripes.now)) columns c.in_ok-tree.ensures.own.1) c.in_ok-tree.ensures.samples)
+    c.content_of_tree.ensures.content (named_paths c.args.stripes.now)
+    (tree_of c.args.columns (columns_of (length c.args.events.now) c.args.runs.now) (named_paths c.args.stripes.now) c.in_ok-tree.tree c.requires.columns c.in_ok-tree.ensures.columns c.in_ok-tree.ensures.nodes c.in_ok-tree.ensures.few c.in_ok-tree.ensures.paths c.in_ok-tree.ensures.samples c.in_ok-tree.ensures.own)
 
 pub returns-clause-tables : goal.returns-clause-tables
-returns-clause-tables g c place within =
-    let columns : c.args.columns ≡ columns_of (length c.args.events.now) c.args.runs.now = c.requires.columns in
-    ap (λ (q : EventContent). content_table (content_of_event q place)) (returns-clause-content g c)
-    ∙ c.event_contents_have_parts.ensures.table c.args.events.now c.args.runs.now (naming_of c.args.expander.now) (named_paths c.args.stripes.now) place c.requires.events within c.in_ok-tree.ensures.few c.in_ok-tree.ensures.own.0
-    (subst (λ (n : ℕ). All (λ (p : ColumnPath). p.column < n) (named_paths c.args.stripes.now)) columns c.in_ok-tree.ensures.own.1)
+returns-clause-tables g c =
+    c.content_of_tree.ensures.tables (named_paths c.args.stripes.now)
+    (tree_of c.args.columns (columns_of (length c.args.events.now) c.args.runs.now) (named_paths c.args.stripes.now) c.in_ok-tree.tree c.requires.columns c.in_ok-tree.ensures.columns c.in_ok-tree.ensures.nodes c.in_ok-tree.ensures.few c.in_ok-tree.ensures.paths c.in_ok-tree.ensures.samples c.in_ok-tree.ensures.own)

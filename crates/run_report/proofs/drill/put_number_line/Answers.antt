@@ -1,6 +1,6 @@
 use Rattle.std.proofs.Common.{◌++◌, ap, ◌∙◌}
 use Rattle.run_report.specs.Drill.{number_line}
-use Rattle.run_report.proofs.Retired.{number_line_put}
+use Rattle.run_report.proofs.DrillLines.{number_line_put}
 use Rattle.run_report.proofs.drill.put_number_line.Goals as goal
 
 pub returns : goal.returns

@@ -1,11 +1,9 @@
-use Rattle.std.proofs.Common.{Ok, Option, ◌∷◌, ◌++◌, sym, ap, subst, ◌∙◌}
+use Rattle.std.proofs.Common.{◌≡◌, Option, ◌∷◌, ◌++◌, sym, ap, subst, ◌∙◌}
 use Rattle.std.specs.Prelude.{option_to_list}
 use Rattle.rv_run.specs.Progress.{to_come}
-use Rattle.sample_clock.specs.declared.clock.Advance.{Advance}
 use Rattle.sample_clock.specs.declared.clock.Sample.{Sample}
-use Rattle.sample_clock.specs.Clock.{Sampling, samples_now, samples_to_come}
-use Rattle.sample_clock.specs.private.Advance.{Advances, NoneMet}
-use Rattle.sample_clock.proofs.Advancing.{answer-met, broken-last, broken-lost, broken-reached, end-reached, ended-last, lost-answer, lost-reached, none-met-more, over-met, quiet-none, sampled-answer, sampled-few, sampled-last, sampled-reached}
+use Rattle.sample_clock.specs.Clock.{AnswersNext, Reaches, Sampling, samples_now, samples_to_come}
+use Rattle.sample_clock.proofs.Advancing.{answer-met}
 use Rattle.sample_clock.proofs.Carrying.{sampling}
 use Rattle.sample_clock.proofs.clock.Samples.next.Goals as goal
 
@@ -17,50 +15,26 @@ returns-in-Some-clause-answer g c =
     ∙ ap (λ (o : Option Sample). c.in-Some.sample ∷ (option_to_list o ++ samples_now (g.U.Unwind.path_of c.args.unwinder.now) (sampling c.self.inside.machine c.self.inside.events.items c.self.inside.full c.self.inside.left (option_to_list c.take.new.self) c.self.inside.met) (to_come c.self.inside.machine).instants)) (sym c.take.ensures.after))
     (ap (λ (s : Sampling). s.met) c.self.view_is) c.give.ensures.met c.give.ensures.new
 
-pub loop-sample-init : goal.loop-sample-init
-loop-sample-init g c =
-    subst (λ (s : Sampling). NoneMet (g.U.Unwind.path_of c.args.unwinder.now) s (sampling c.self.inside.machine c.self.inside.events.items c.self.inside.full c.self.inside.left (option_to_list c.take.new.self) c.self.inside.met))
-    (ap (λ (o : Option Sample). sampling c.self.inside.machine c.self.inside.events.items c.self.inside.full c.self.inside.left (option_to_list o) c.self.inside.met) (c.take.ensures.after ∙ sym c.in_default.is ∙ c.take.ensures.value) ∙ c.self.view_is)
-    (record { quiet = quiet-none (g.U.Unwind.path_of c.args.unwinder.now) (sampling c.self.inside.machine c.self.inside.events.items c.self.inside.full c.self.inside.left (option_to_list c.take.new.self) c.self.inside.met); pending = ap option_to_list c.take.ensures.after; few = c.if-self-gt-MOST_SAMPLES.false })
+pub next_alone-requires-clause-pending : goal.next_alone-requires-clause-pending
+next_alone-requires-clause-pending g c = ap option_to_list c.take.ensures.after
 
-pub go_on-requires : goal.go_on-requires
-go_on-requires g c = c.loop-sample.invariant.quiet.passes.pending ∙ c.loop-sample.invariant.pending
+pub returns-then-self-clause-answer : goal.returns-then-self-clause-answer
+returns-then-self-clause-answer g c = subst (λ (s : Sampling). AnswersNext (g.U.Unwind.path_of c.args.unwinder.now) c.next_alone.result s c.next_alone.new.self) (ap (λ (o : Option Sample). sampling c.self.inside.machine c.self.inside.events.items c.self.inside.full c.self.inside.left (option_to_list o) c.self.inside.met) (c.take.ensures.after ∙ sym c.in_default.is ∙ c.take.ensures.value) ∙ c.self.view_is) c.next_alone.ensures.answer
 
-pub returns-in_err-go_on-clause-answer : goal.returns-in_err-go_on-clause-answer
-returns-in_err-go_on-clause-answer g c =
-    lost-answer (g.U.Unwind.path_of c.args.unwinder.now) c.from_residual.result c.in_err-go_on.field-0.0 c.args.self.now c.go_on.new.self c.from_residual.ensures.1
-    (broken-lost (g.U.Unwind.path_of c.args.unwinder.now) c.args.self.now c.loop-sample.self c.go_on.new.self c.loop-sample.invariant c.in_err-go_on.ensures)
+pub returns-then-self-clause-reached : goal.returns-then-self-clause-reached
+returns-then-self-clause-reached g c = subst (λ (s : Sampling). Reaches (g.U.Unwind.path_of c.args.unwinder.now) c.next_alone.result s c.next_alone.new.self) (ap (λ (o : Option Sample). sampling c.self.inside.machine c.self.inside.events.items c.self.inside.full c.self.inside.left (option_to_list o) c.self.inside.met) (c.take.ensures.after ∙ sym c.in_default.is ∙ c.take.ensures.value) ∙ c.self.view_is) c.next_alone.ensures.reached
 
-pub returns-in_err-go_on-clause-reached : goal.returns-in_err-go_on-clause-reached
-returns-in_err-go_on-clause-reached g c =
-    lost-reached (g.U.Unwind.path_of c.args.unwinder.now) c.from_residual.result c.in_err-go_on.field-0.0 c.args.self.now c.go_on.new.self c.from_residual.ensures.1
-    (broken-reached (g.U.Unwind.path_of c.args.unwinder.now) c.args.self.now c.loop-sample.self c.go_on.new.self c.loop-sample.invariant c.in_err-go_on.ensures)
+pub returns-then-self-clause-last : goal.returns-then-self-clause-last
+returns-then-self-clause-last g c = subst (λ (s : Sampling). (to_come c.next_alone.new.self.machine).final ≡ (to_come s.machine).final) (ap (λ (o : Option Sample). sampling c.self.inside.machine c.self.inside.events.items c.self.inside.full c.self.inside.left (option_to_list o) c.self.inside.met) (c.take.ensures.after ∙ sym c.in_default.is ∙ c.take.ensures.value) ∙ c.self.view_is) c.next_alone.ensures.last
 
-pub returns-in_err-go_on-clause-last : goal.returns-in_err-go_on-clause-last
-returns-in_err-go_on-clause-last g c = broken-last (g.U.Unwind.path_of c.args.unwinder.now) c.args.self.now c.loop-sample.self c.go_on.new.self c.loop-sample.invariant c.in_err-go_on.ensures
+pub next_counting-requires-clause-pending : goal.next_counting-requires-clause-pending
+next_counting-requires-clause-pending g c = ap option_to_list c.take.ensures.after
 
-pub returns-in-End-clause-answer : goal.returns-in-End-clause-answer
-returns-in-End-clause-answer g c = over-met (g.U.Unwind.path_of c.args.unwinder.now) c.args.self.now c.loop-sample.self c.go_on.new.self c.loop-sample.invariant (subst (λ (x : Advance). Advances (g.U.Unwind.path_of c.args.unwinder.now) (Ok x) c.loop-sample.self c.go_on.new.self) c.in-End.is c.in_ok-go_on.ensures)
+pub returns-else-self-clause-answer : goal.returns-else-self-clause-answer
+returns-else-self-clause-answer g c = subst (λ (s : Sampling). AnswersNext (g.U.Unwind.path_of c.args.unwinder.now) c.next_counting.result s c.next_counting.new.self) (ap (λ (o : Option Sample). sampling c.self.inside.machine c.self.inside.events.items c.self.inside.full c.self.inside.left (option_to_list o) c.self.inside.met) (c.take.ensures.after ∙ sym c.in_default.is ∙ c.take.ensures.value) ∙ c.self.view_is) c.next_counting.ensures.answer
 
-pub returns-in-End-clause-reached : goal.returns-in-End-clause-reached
-returns-in-End-clause-reached g c = end-reached (g.U.Unwind.path_of c.args.unwinder.now) c.args.self.now c.loop-sample.self c.go_on.new.self c.loop-sample.invariant (subst (λ (x : Advance). Advances (g.U.Unwind.path_of c.args.unwinder.now) (Ok x) c.loop-sample.self c.go_on.new.self) c.in-End.is c.in_ok-go_on.ensures)
+pub returns-else-self-clause-reached : goal.returns-else-self-clause-reached
+returns-else-self-clause-reached g c = subst (λ (s : Sampling). Reaches (g.U.Unwind.path_of c.args.unwinder.now) c.next_counting.result s c.next_counting.new.self) (ap (λ (o : Option Sample). sampling c.self.inside.machine c.self.inside.events.items c.self.inside.full c.self.inside.left (option_to_list o) c.self.inside.met) (c.take.ensures.after ∙ sym c.in_default.is ∙ c.take.ensures.value) ∙ c.self.view_is) c.next_counting.ensures.reached
 
-pub returns-in-End-clause-last : goal.returns-in-End-clause-last
-returns-in-End-clause-last g c = ended-last (g.U.Unwind.path_of c.args.unwinder.now) c.args.self.now c.loop-sample.self c.go_on.new.self c.loop-sample.invariant (subst (λ (x : Advance). Advances (g.U.Unwind.path_of c.args.unwinder.now) (Ok x) c.loop-sample.self c.go_on.new.self) c.in-End.is c.in_ok-go_on.ensures)
-
-pub loop-sample-preserved : goal.loop-sample-preserved
-loop-sample-preserved g c = none-met-more (g.U.Unwind.path_of c.args.unwinder.now) c.args.self.now c.loop-sample.self c.go_on.new.self c.loop-sample.invariant (subst (λ (x : Advance). Advances (g.U.Unwind.path_of c.args.unwinder.now) (Ok x) c.loop-sample.self c.go_on.new.self) c.in-Unsampled.is c.in_ok-go_on.ensures).0
-
-pub give-requires-in-Sampled : goal.give-requires-in-Sampled
-give-requires-in-Sampled g c = sampled-few (g.U.Unwind.path_of c.args.unwinder.now) c.in-Sampled.sample c.args.self.now c.loop-sample.self c.go_on.new.self c.loop-sample.invariant (subst (λ (x : Advance). Advances (g.U.Unwind.path_of c.args.unwinder.now) (Ok x) c.loop-sample.self c.go_on.new.self) c.in-Sampled.is c.in_ok-go_on.ensures)
-
-pub returns-in-Sampled-clause-answer : goal.returns-in-Sampled-clause-answer
-returns-in-Sampled-clause-answer g c =
-    sampled-answer (g.U.Unwind.path_of c.args.unwinder.now) c.in-Sampled.sample c.give-in-Sampled.result c.args.self.now c.loop-sample.self c.go_on.new.self c.give-in-Sampled.new.self c.loop-sample.invariant (subst (λ (x : Advance). Advances (g.U.Unwind.path_of c.args.unwinder.now) (Ok x) c.loop-sample.self c.go_on.new.self) c.in-Sampled.is c.in_ok-go_on.ensures) c.give-in-Sampled.ensures.met c.give-in-Sampled.ensures.new
-
-pub returns-in-Sampled-clause-reached : goal.returns-in-Sampled-clause-reached
-returns-in-Sampled-clause-reached g c =
-    sampled-reached (g.U.Unwind.path_of c.args.unwinder.now) c.in-Sampled.sample c.give-in-Sampled.result c.args.self.now c.loop-sample.self c.go_on.new.self c.give-in-Sampled.new.self c.loop-sample.invariant (subst (λ (x : Advance). Advances (g.U.Unwind.path_of c.args.unwinder.now) (Ok x) c.loop-sample.self c.go_on.new.self) c.in-Sampled.is c.in_ok-go_on.ensures) c.give-in-Sampled.ensures.met c.give-in-Sampled.ensures.new
-
-pub returns-in-Sampled-clause-last : goal.returns-in-Sampled-clause-last
-returns-in-Sampled-clause-last g c = sampled-last (g.U.Unwind.path_of c.args.unwinder.now) c.in-Sampled.sample c.args.self.now c.loop-sample.self c.go_on.new.self c.give-in-Sampled.new.self c.loop-sample.invariant (subst (λ (x : Advance). Advances (g.U.Unwind.path_of c.args.unwinder.now) (Ok x) c.loop-sample.self c.go_on.new.self) c.in-Sampled.is c.in_ok-go_on.ensures) c.give-in-Sampled.ensures.new
+pub returns-else-self-clause-last : goal.returns-else-self-clause-last
+returns-else-self-clause-last g c = subst (λ (s : Sampling). (to_come c.next_counting.new.self.machine).final ≡ (to_come s.machine).final) (ap (λ (o : Option Sample). sampling c.self.inside.machine c.self.inside.events.items c.self.inside.full c.self.inside.left (option_to_list o) c.self.inside.met) (c.take.ensures.after ∙ sym c.in_default.is ∙ c.take.ensures.value) ∙ c.self.view_is) c.next_counting.ensures.last

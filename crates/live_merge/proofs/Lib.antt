@@ -1,0 +1,10 @@
+pub mod Adding
+pub mod Sums
+pub mod Orders
+pub mod Merging
+pub mod Scopes
+pub mod Epochs
+pub mod Grown
+pub mod Running
+pub mod Counting
+pub mod Holding
