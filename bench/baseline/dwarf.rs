@@ -1,90 +1,24 @@
-//! Debug information of DWARF 5: the subprograms and inlined subroutines, their ranges, names and calls. Well-formed
-//! sections alone.
+//! Debug information of DWARF 5: the subprograms and inlined subroutines, their ranges, names and calls.
 
 use std::collections::HashMap;
 use std::rc::Rc;
 
-use crate::elf::{Debug, Program, text, word};
-use crate::forms::{Cursor, Value, Value::*, size_of, value};
+use crate::abbrevs::*;
+use crate::bytes::{Cursor, Read, text_at, word_at};
+use crate::elf::{Debug, Program};
+use crate::forms::{NoValue, Value, Value::*};
+use crate::lines::Lines;
 
-const SUBPROGRAM: u32 = 0x2e;
-const INLINED: u32 = 0x1d;
-
-/// Attributes that are read, and their places in the values of an entry.
-const WANTED: [u32; 13] = [0x03, 0x6e, 0x11, 0x12, 0x55, 0x31, 0x47, 0x58, 0x59, 0x10, 0x72, 0x73, 0x74];
-const NAME: usize = 0;
-const LINKAGE_NAME: usize = 1;
-const LOW_PC: usize = 2;
-const HIGH_PC: usize = 3;
-const RANGES: usize = 4;
-const ABSTRACT_ORIGIN: usize = 5;
-const SPECIFICATION: usize = 6;
-const CALL_FILE: usize = 7;
-const CALL_LINE: usize = 8;
-const STMT_LIST: usize = 9;
-const STR_OFFSETS_BASE: usize = 10;
-const ADDR_BASE: usize = 11;
-const RNGLISTS_BASE: usize = 12;
-const UNWANTED: u8 = u8::MAX;
-
-struct Attribute {
-    /// Its place among the wanted, or `UNWANTED`.
-    place: u8,
-    form: u32,
-    implicit: i64,
-}
-
-struct Declaration {
-    tag: u32,
-    has_children: bool,
-    /// The bytes of an entry behind its code, where all entries have as many.
-    size: Option<usize>,
-    attributes: Vec<Attribute>,
-}
-
-type Declarations = HashMap<u64, Declaration>;
-
-fn declarations(bytes: &[u8], at: u32) -> Declarations {
-    let mut cursor = Cursor { bytes, at: at as usize };
-    let mut found = Declarations::new();
-    loop {
-        let code = cursor.uleb();
-        if code == 0 {
-            return found;
-        }
-        let (tag, has_children) = (cursor.uleb() as u32, cursor.byte() == 1);
-        let (mut attributes, mut size) = (Vec::new(), Some(0));
-        loop {
-            let (attribute, form) = (cursor.uleb() as u32, cursor.uleb() as u32);
-            let implicit = if form == 0x21 { cursor.sleb() } else { 0 };
-            if attribute == 0 && form == 0 {
-                break;
-            }
-            let place = WANTED.iter().position(|wanted| *wanted == attribute).map_or(UNWANTED, |place| place as u8);
-            size = size.zip(size_of(form)).map(|(size, more)| size + more);
-            attributes.push(Attribute { place, form, implicit });
-        }
-        found.entry(code).or_insert(Declaration { tag, has_children, size, attributes });
-    }
-}
-
-/// The values of an entry's wanted attributes.
-type Values<'a> = [Option<Value<'a>>; WANTED.len()];
-
-fn values<'a>(cursor: &mut Cursor<'a>, declaration: &Declaration) -> Values<'a> {
-    let mut found = [None; WANTED.len()];
-    for attribute in &declaration.attributes {
-        let value = value(cursor, attribute.form, attribute.implicit);
-        if attribute.place != UNWANTED && found[attribute.place as usize].is_none() {
-            found[attribute.place as usize] = Some(value);
-        }
-    }
-    found
-}
+const SUBPROGRAM: u64 = 0x2e;
+const INLINED: u64 = 0x1d;
+const MOST_LINKS: usize = 8;
+const MOST_LEVELS: usize = 62;
+const MOST_NAME_BYTES: usize = 4096;
 
 #[derive(Clone, Default)]
 struct Unit {
     offset: u32,
+    end: u32,
     abbrev: u32,
     stmt_list: Option<u32>,
     str_offsets: Option<u32>,
@@ -103,36 +37,75 @@ pub enum Line {
 /// A subprogram or an inlined subroutine.
 pub struct Item {
     pub is_inlined: bool,
+    /// The inlined subroutines among it and those that it lies in.
+    pub levels: usize,
     /// The number of the first later item that is no descendant.
     pub after: u32,
-    /// The offset of its entry, and in the end of the entry to which its links lead.
+    /// The offset of its entry.
+    pub offset: u32,
+    /// The offset of the entry to which its links lead.
     pub identity: u32,
-    link: Option<u32>,
     pub call: Line,
     /// Where its ranges stand.
     pub first: u32,
+    unit: u32,
+    call_line: Option<u32>,
+    call_file: Option<u32>,
 }
 
 pub struct Info<'a> {
     debug: Debug<'a>,
     units: Vec<Unit>,
-    tables: HashMap<u32, Rc<Declarations>>,
+    tables: HashMap<u32, Option<Rc<Declarations>>>,
+    /// A flag for each byte of the section: an entry begins there.
+    begins: Vec<bool>,
     pub items: Vec<Item>,
     /// The ranges that count, item by item.
     pub ranges: Vec<(u32, u32)>,
 }
 
+fn refused<T>(rule: &str, at: usize) -> Read<T> {
+    Err(format!("entries {rule} at {at}"))
+}
+
 impl<'a> Info<'a> {
-    pub fn read(program: &Program<'a>) -> Info<'a> {
+    /// Reads the units and their entries, or gives the first fault in section order.
+    pub fn read(program: &Program<'a>) -> Read<Info<'a>> {
+        let debug = program.debug;
+        let begins = vec![false; debug.info.len()];
         let (units, tables, items, ranges) = (Vec::new(), HashMap::new(), Vec::new(), Vec::new());
-        let mut info = Info { debug: program.debug, units, tables, items, ranges };
-        let mut at = 0;
-        while at < info.debug.info.len() {
-            at = info.read_unit(program, at);
+        let mut info = Info { debug, units, tables, begins, items, ranges };
+        let mut cursor = Cursor { bytes: debug.info, at: 0 };
+        while cursor.left() > 0 {
+            let at = cursor.at;
+            let part = cursor.part().map_or_else(|| refused("BadUnit", at), Ok)?;
+            info.read_unit(program, at, part)?;
         }
-        let identities: Vec<u32> = info.items.iter().map(|item| info.identity(item)).collect();
-        info.items.iter_mut().zip(identities).for_each(|(item, identity)| item.identity = identity);
-        info
+        Ok(info)
+    }
+
+    /// Follows the links, and finds the lines of calls; or gives the first item that is at fault.
+    pub fn joined(mut self, lines: &Lines) -> Read<Info<'a>> {
+        for number in 0..self.items.len() {
+            let item = &self.items[number];
+            let mut identity = item.offset;
+            for _ in 0..MOST_LINKS {
+                identity = self.linked(identity).unwrap_or(identity);
+            }
+            if self.linked(identity).is_some() {
+                return Err(format!("structure LinkCycle at {}", item.offset));
+            }
+            if item.is_inlined && item.levels > MOST_LEVELS {
+                return Err(format!("structure TooDeep at {}", item.offset));
+            }
+            let table = self.units[item.unit as usize].stmt_list.filter(|table| lines.has_table(*table));
+            let call = match (table, item.call_line) {
+                (Some(table), Some(line)) => Line::Row { table, file: item.call_file.unwrap_or(0), line },
+                _ => Line::Address(self.ranges.get(item.first as usize).map_or(0, |range| range.0)),
+            };
+            (self.items[number].identity, self.items[number].call) = (identity, call);
+        }
+        Ok(self)
     }
 
     /// The offsets of the line tables that units name, ascending.
@@ -143,41 +116,51 @@ impl<'a> Info<'a> {
         tables
     }
 
-    fn read_unit(&mut self, program: &Program<'a>, at: usize) -> usize {
-        let mut cursor = Cursor { bytes: self.debug.info, at };
-        let end = cursor.word() as usize + at + 4;
-        if cursor.half() != 5 {
-            return end;
+    fn read_unit(&mut self, program: &Program<'a>, at: usize, mut cursor: Cursor<'a>) -> Read<()> {
+        let bad = || refused("BadUnit", at);
+        match cursor.number(2) {
+            Some(5) => {}
+            Some(2..=4) => return Ok(()),
+            _ => return bad(),
         }
-        let kind = cursor.byte();
+        let Some(kind) = cursor.byte() else { return bad() };
         if kind == 2 {
-            return end;
+            return Ok(());
         }
-        assert!(matches!(kind, 1 | 3) && cursor.byte() == 4, "a unit of DWARF 5 with addresses of four bytes");
-        let abbrev = cursor.word();
-        let read = || Rc::new(declarations(self.debug.abbrev, abbrev));
-        let table = self.tables.entry(abbrev).or_insert_with(read).clone();
-        let offset = at as u32;
-        self.units.push(Unit { offset, abbrev, ..Unit::default() });
-        self.read_entries(program, cursor, end, &table);
-        end
+        let (Some(address_size), Some(abbrev)) = (cursor.byte(), cursor.word()) else { return bad() };
+        match kind {
+            4..=6 => return refused("SplitUnit", at),
+            1 | 3 if address_size == 4 => {}
+            _ => return bad(),
+        }
+        let read = || declarations(self.debug.abbrev, abbrev).map(Rc::new);
+        let Some(table) = self.tables.entry(abbrev).or_insert_with(read).clone() else {
+            return refused("BadAbbrev", at);
+        };
+        let end = cursor.bytes.len() as u32;
+        self.units.push(Unit { offset: at as u32, end, abbrev, ..Unit::default() });
+        self.read_entries(program, cursor, &table)
     }
 
-    fn read_entries(&mut self, program: &Program<'a>, mut cursor: Cursor<'a>, end: usize, table: &Declarations) {
+    fn read_entries(&mut self, program: &Program<'a>, mut cursor: Cursor<'a>, table: &Declarations) -> Read<()> {
         // Whether the entry of each open level is an item, and which.
         let (mut open, mut is_first): (Vec<Option<usize>>, bool) = (Vec::new(), true);
-        let mut unit = self.units.last().expect("a unit").clone();
-        while cursor.at < end {
-            let (offset, code) = (cursor.at, cursor.uleb());
+        let (mut unit, mut levels) = (self.units.last().expect("a unit").clone(), 0);
+        while cursor.left() > 0 {
+            let offset = cursor.at;
+            let Some(code) = cursor.uleb() else { return refused("BadUnit", offset) };
             if code == 0 {
-                self.close(open.pop().flatten());
+                levels -= self.close(open.pop().flatten());
                 continue;
             }
-            let declaration = &table[&code];
-            let is_item = matches!(declaration.tag, SUBPROGRAM | INLINED);
-            let mut item = None;
+            let Some(declaration) = table.get(&code) else { return refused("BadAbbrev", offset) };
+            self.begins[offset] = true;
+            let failed = |fault: NoValue| {
+                format!("entries {} at {offset}", if fault == NoValue::Short { "BadUnit" } else { "UnknownForm" })
+            };
+            let (is_item, mut item) = (matches!(declaration.tag, SUBPROGRAM | INLINED), None);
             if is_item || is_first {
-                let values = values(&mut cursor, declaration);
+                let values = declaration.values(&mut cursor).map_err(failed)?;
                 if is_first {
                     unit = self.with_bases(unit, &values);
                     *self.units.last_mut().expect("a unit") = unit.clone();
@@ -185,30 +168,29 @@ impl<'a> Info<'a> {
                 }
                 if is_item {
                     item = Some(self.items.len());
-                    self.read_item(program, &unit, declaration.tag, offset as u32, &values);
+                    levels += usize::from(declaration.tag == INLINED);
+                    self.read_item(program, &unit, declaration.tag, (offset as u32, levels), &values);
                 }
-            } else if let Some(size) = declaration.size {
-                cursor.at += size;
             } else {
-                for attribute in &declaration.attributes {
-                    value(&mut cursor, attribute.form, attribute.implicit);
-                }
+                declaration.skip(&mut cursor).map_err(failed)?;
             }
             if declaration.has_children {
                 open.push(item);
             } else {
-                self.close(item);
+                levels -= self.close(item);
             }
         }
         while let Some(item) = open.pop() {
             self.close(item);
         }
+        Ok(())
     }
 
-    fn close(&mut self, item: Option<usize>) {
-        if let Some(item) = item {
-            self.items[item].after = self.items.len() as u32;
-        }
+    /// Ends an item; answers how many levels of inlined subroutines end.
+    fn close(&mut self, item: Option<usize>) -> usize {
+        let Some(item) = item else { return 0 };
+        self.items[item].after = self.items.len() as u32;
+        usize::from(self.items[item].is_inlined)
     }
 
     fn with_bases(&self, unit: Unit, values: &Values) -> Unit {
@@ -227,128 +209,135 @@ impl<'a> Info<'a> {
         Unit { low_pc, ..unit }
     }
 
-    fn read_item(&mut self, program: &Program<'a>, unit: &Unit, tag: u32, offset: u32, values: &Values<'a>) {
-        let first = self.ranges.len();
+    fn read_item(&mut self, program: &Program, unit: &Unit, tag: u64, place: (u32, usize), values: &Values<'a>) {
+        let first = self.ranges.len() as u32;
         for (low, high) in self.ranges_of(unit, values) {
             if low < high && program.counts(low, high - low) {
                 self.ranges.push((low, high));
             }
         }
-        let number = |place: usize| match values[place] {
-            Some(Number(number)) => u32::try_from(number).ok(),
+        let number = |place: usize| match values[place]? {
+            Number(number) => u32::try_from(number).ok(),
+            Signed(number) => u32::try_from(number).ok(),
             _ => None,
         };
-        let start = self.ranges.get(first).map_or(0, |range| range.0);
-        let call = match (unit.stmt_list, number(CALL_LINE)) {
-            (Some(table), Some(line)) => Line::Row { table, file: number(CALL_FILE).unwrap_or(0), line },
-            _ => Line::Address(start),
-        };
-        let (is_inlined, link) = (tag == INLINED, Info::linked(unit, values));
-        self.items.push(Item { is_inlined, after: 0, identity: offset, link, call, first: first as u32 });
+        self.items.push(Item {
+            is_inlined: tag == INLINED,
+            levels: place.1,
+            after: 0,
+            offset: place.0,
+            identity: place.0,
+            call: Line::Address(0),
+            first,
+            unit: self.units.len() as u32 - 1,
+            call_line: number(CALL_LINE),
+            call_file: number(CALL_FILE),
+        });
     }
 
     fn address(&self, unit: &Unit, value: Option<Value>) -> Option<u32> {
         match value? {
             Address(address) => Some(address),
-            AddressIndex(index) => Some(word(self.debug.addr, (unit.addr? + 4 * index) as usize)),
+            AddressIndex(index) => element(self.debug.addr, unit.addr, index),
             _ => None,
         }
     }
 
     fn ranges_of(&self, unit: &Unit, values: &Values) -> Vec<(u32, u32)> {
         let listed = match values[RANGES] {
-            Some(Section(offset)) => Some(offset),
-            Some(ListIndex(index)) => {
-                unit.rnglists.map(|base| base + word(self.debug.rnglists, (base + 4 * index) as usize))
-            }
+            Some(Section(offset)) => Some(u64::from(offset)),
+            Some(ListIndex(index)) => unit.rnglists.and_then(|base| {
+                let offset = element(self.debug.rnglists, unit.rnglists, index)?;
+                Some(u64::from(base) + u64::from(offset))
+            }),
             _ => None,
         };
-        if let Some(offset) = listed {
-            return self.listed(unit, offset);
+        if let Some(ranges) = listed.and_then(|offset| self.listed_ranges(unit, offset as usize)) {
+            return ranges;
         }
         let Some(low) = self.address(unit, values[LOW_PC]) else { return Vec::new() };
         let high = match values[HIGH_PC] {
             Some(Number(size)) => Some(low.wrapping_add(size as u32)),
-            value => self.address(unit, value),
+            Some(Signed(size)) => Some(low.wrapping_add(size as u32)),
+            other => self.address(unit, other),
         };
-        high.map(|high| (low, high)).into_iter().collect()
+        high.map(|high| vec![(low, high)]).unwrap_or_default()
     }
 
-    fn listed(&self, unit: &Unit, offset: u32) -> Vec<(u32, u32)> {
-        let mut cursor = Cursor { bytes: self.debug.rnglists, at: offset as usize };
-        let (mut base, mut found) = (unit.low_pc, Vec::new());
-        let indexed = |cursor: &mut Cursor| {
-            let index = cursor.uleb() as u32;
-            word(self.debug.addr, (unit.addr.expect("a base") + 4 * index) as usize)
-        };
+    /// The ranges of a list, if it is whole.
+    fn listed_ranges(&self, unit: &Unit, offset: usize) -> Option<Vec<(u32, u32)>> {
+        let mut cursor = Cursor::new(self.debug.rnglists, offset)?;
+        let (mut found, mut base) = (Vec::new(), unit.low_pc);
+        let indexed = |cursor: &mut Cursor| element(self.debug.addr, unit.addr, cursor.uleb()?);
         loop {
-            match cursor.byte() {
-                0 => return found,
-                1 => base = indexed(&mut cursor),
-                2 => found.push((indexed(&mut cursor), indexed(&mut cursor))),
+            match cursor.byte()? {
+                0 => return Some(found),
+                1 => base = indexed(&mut cursor)?,
+                2 => found.push((indexed(&mut cursor)?, indexed(&mut cursor)?)),
                 3 => {
-                    let start = indexed(&mut cursor);
-                    found.push((start, start.wrapping_add(cursor.uleb() as u32)));
+                    let start = indexed(&mut cursor)?;
+                    found.push((start, start.wrapping_add(cursor.uleb()? as u32)));
                 }
                 4 => {
-                    let (start, end) = (cursor.uleb() as u32, cursor.uleb() as u32);
+                    let (start, end) = (cursor.uleb()? as u32, cursor.uleb()? as u32);
                     found.push((base.wrapping_add(start), base.wrapping_add(end)));
                 }
-                5 => base = cursor.word(),
-                6 => found.push((cursor.word(), cursor.word())),
+                5 => base = cursor.word()?,
+                6 => found.push((cursor.word()?, cursor.word()?)),
                 7 => {
-                    let start = cursor.word();
-                    found.push((start, start.wrapping_add(cursor.uleb() as u32)));
+                    let start = cursor.word()?;
+                    found.push((start, start.wrapping_add(cursor.uleb()? as u32)));
                 }
-                kind => panic!("a range list entry of kind {kind}"),
+                _ => return None,
             }
         }
     }
 
-    fn linked(unit: &Unit, values: &Values) -> Option<u32> {
-        [ABSTRACT_ORIGIN, SPECIFICATION].iter().find_map(|place| match values[*place]? {
-            UnitRef(offset) => Some(unit.offset + offset),
-            InfoRef(offset) => Some(offset),
-            _ => None,
+    /// The entry to which the first link of an entry leads that is one.
+    fn linked(&self, offset: u32) -> Option<u32> {
+        let (unit, values) = self.entry(offset)?;
+        [ABSTRACT_ORIGIN, SPECIFICATION].iter().find_map(|place| {
+            let to = match values[*place]? {
+                UnitRef(offset) => u64::from(unit.offset).checked_add(offset)?,
+                InfoRef(offset) => u64::from(offset),
+                _ => return None,
+            };
+            let is_entry = usize::try_from(to).ok().and_then(|to| self.begins.get(to)).copied().unwrap_or(false);
+            is_entry.then_some(to as u32)
         })
     }
 
-    fn identity(&self, item: &Item) -> u32 {
-        let (mut offset, mut next) = (item.identity, item.link);
-        while let Some(to) = next {
-            let (unit, values) = self.entry(to);
-            (offset, next) = (to, Info::linked(unit, &values));
-        }
-        offset
-    }
-
     /// An entry by its offset.
-    fn entry(&self, offset: u32) -> (&Unit, Values<'a>) {
-        let unit = &self.units[self.units.partition_point(|unit| unit.offset <= offset) - 1];
-        let mut cursor = Cursor { bytes: self.debug.info, at: offset as usize };
-        let code = cursor.uleb();
-        (unit, values(&mut cursor, &self.tables[&unit.abbrev][&code]))
+    fn entry(&self, offset: u32) -> Option<(&Unit, Values<'a>)> {
+        let unit = &self.units[self.units.partition_point(|unit| unit.offset <= offset).checked_sub(1)?];
+        let mut cursor = Cursor { bytes: &self.debug.info[..unit.end as usize], at: offset as usize };
+        let code = cursor.uleb()?;
+        let table = self.tables.get(&unit.abbrev)?.as_ref()?;
+        Some((unit, table.get(&code)?.values(&mut cursor).ok()?))
     }
 
     /// The name of a procedure by the offset of its entry, cut at 4,096 bytes.
     pub fn name(&self, identity: u32) -> &'a [u8] {
-        let (unit, values) = self.entry(identity);
-        let name = self.text(unit, values[NAME]).or_else(|| self.text(unit, values[LINKAGE_NAME]));
-        let name = name.unwrap_or(b"<unnamed>");
-        &name[..name.len().min(4096)]
+        let named = self
+            .entry(identity)
+            .and_then(|(unit, values)| self.text(unit, values[NAME]).or_else(|| self.text(unit, values[LINKAGE_NAME])));
+        let name = named.unwrap_or(b"<unnamed>");
+        &name[..name.len().min(MOST_NAME_BYTES)]
     }
 
     fn text(&self, unit: &Unit, value: Option<Value<'a>>) -> Option<&'a [u8]> {
-        let text_of = |offset: u32| text(self.debug.str_bytes, offset as usize);
+        let text_of = |offset: u32| text_at(self.debug.str_bytes, offset as usize);
         match value? {
             Text(name) => Some(name),
-            Str(offset) => Some(text_of(offset)),
-            LineStr(offset) => Some(text(self.debug.line_str, offset as usize)),
-            StrIndex(index) => {
-                let base = unit.str_offsets? + 4 * index;
-                Some(text_of(word(self.debug.str_offsets, base as usize)))
-            }
+            Str(offset) => text_of(offset),
+            LineStr(offset) => text_at(self.debug.line_str, offset as usize),
+            StrIndex(index) => text_of(element(self.debug.str_offsets, unit.str_offsets, index)?),
             _ => None,
         }
     }
+}
+
+/// The word with an index in the table that begins at a base of a section.
+fn element(section: &[u8], base: Option<u32>, index: u64) -> Option<u32> {
+    word_at(section, u128::from(base?) + 4 * u128::from(index))
 }

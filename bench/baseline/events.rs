@@ -1,9 +1,13 @@
 //! The events of a run that are sampled: retired instructions, loads, stores and taken branches, each with its period.
 
+use crate::bytes::Read;
 use crate::decode::Op;
 use crate::machine::{Machine, taken};
+use crate::schedule::number;
 use crate::unwind::{Paths, Trail, Unwinder};
-use crate::{MOST_FRAMES, MOST_SAMPLES, refuse};
+
+pub const MOST_SAMPLES: u64 = 1 << 20;
+pub const MOST_FRAMES: usize = 1 << 22;
 
 #[derive(Clone, Copy, PartialEq, Eq, PartialOrd, Ord)]
 pub enum Event {
@@ -38,18 +42,22 @@ pub struct EventPeriod {
     pub period: u32,
 }
 
+pub fn retired(period: u32) -> EventPeriod {
+    EventPeriod { event: Event::Retired, period }
+}
+
 /// The events of a word: a number, which is the period of retired, or `EVENT:P` joined by commas, events ascending.
-pub fn events_of(word: &str) -> Option<Vec<EventPeriod>> {
-    let period = |digits: &str| digits.parse().ok().filter(|period| *period > 0);
+pub fn events_of(word: &[u8]) -> Option<Vec<EventPeriod>> {
+    let period = |digits: &[u8]| number(digits, 1, u32::MAX);
     if let Some(period) = period(word) {
-        return Some(vec![EventPeriod { event: Event::Retired, period }]);
+        return Some(vec![retired(period)]);
     }
-    let one = |part: &str| {
-        let (name, digits) = part.split_once(':')?;
-        let event = NAMED.iter().find(|named| named.0 == name)?.1;
-        Some(EventPeriod { event, period: period(digits)? })
+    let one = |part: &[u8]| {
+        let colon = part.iter().position(|byte| *byte == b':')?;
+        let event = NAMED.iter().find(|named| named.0.as_bytes() == &part[..colon])?.1;
+        Some(EventPeriod { event, period: period(&part[colon + 1..])? })
     };
-    let events = word.split(',').map(one).collect::<Option<Vec<EventPeriod>>>()?;
+    let events = word.split(|byte| *byte == b',').map(one).collect::<Option<Vec<EventPeriod>>>()?;
     events.is_sorted_by(|one, other| one.event < other.event).then_some(events)
 }
 
@@ -90,14 +98,81 @@ fn extra(machine: &Machine, number: usize) -> Option<Event> {
     Event::of(op, taken(op, regs[rs1 as usize], regs[rs2 as usize]))
 }
 
-/// Runs the slices. A sample of an event is taken of the state before each instruction of the event whose number among
-/// its hart's is a multiple of the period, and counts if that instruction retires. A pass of as many instructions as
-/// the event lacks that lacks least goes past no sample.
-pub fn run(machine: &mut Machine, unwinder: &mut Unwinder, slices: &[(usize, u64)], events: &[EventPeriod]) -> Paths {
+/// Runs the slices, and hands each sample's column and call path on, until one is refused.
+pub fn run(
+    machine: &mut Machine,
+    unwinder: &mut Unwinder,
+    slices: &[(usize, u64)],
+    events: &[EventPeriod],
+    sampled: impl FnMut(usize, &Trail) -> Read<()>,
+) -> Read<()> {
+    if is_retired_alone(events) {
+        run_retired(machine, unwinder, slices, u64::from(events[0].period), sampled)
+    } else {
+        run_events(machine, unwinder, slices, events, sampled)
+    }
+}
+
+/// The same, and counts the samples' paths.
+pub fn counted(
+    machine: &mut Machine,
+    unwinder: &mut Unwinder,
+    slices: &[(usize, u64)],
+    events: &[EventPeriod],
+) -> Read<Paths> {
+    let (mut paths, mut samples) = (Paths::new(), 0);
+    run(machine, unwinder, slices, events, |column, trail| {
+        samples += 1;
+        add(&mut paths, column, trail, samples)
+    })?;
+    Ok(paths)
+}
+
+/// Where retired is the only event: a sample is taken of the state before each instruction whose number in its hart is
+/// a multiple of the period, and counts if that instruction retires.
+fn run_retired(
+    machine: &mut Machine,
+    unwinder: &mut Unwinder,
+    slices: &[(usize, u64)],
+    period: u64,
+    mut sampled: impl FnMut(usize, &Trail) -> Read<()>,
+) -> Read<()> {
+    let (mut next, mut trail) = (vec![period; machine.harts.len()], Trail::new());
+    for (number, count) in slices {
+        let mut left = *count;
+        while left > 0 && machine.harts[*number].end.is_none() {
+            let hart = &machine.harts[*number];
+            let before = next[*number] - hart.done[0] - 1;
+            if before > 0 {
+                left -= machine.pass::<false>(*number, before.min(left));
+                continue;
+            }
+            unwinder.walk(hart.pc, &hart.regs, &mut machine.memory, &mut trail);
+            let retired = machine.pass::<false>(*number, 1);
+            left -= retired;
+            if retired == 1 {
+                next[*number] += period;
+                sampled(*number, &trail)?;
+            }
+        }
+    }
+    Ok(())
+}
+
+/// A sample of an event is taken of the state before each instruction of the event whose number among its hart's is a
+/// multiple of the period, and counts if that instruction retires. A pass of as many instructions as the event lacks
+/// that lacks least goes past no sample.
+fn run_events(
+    machine: &mut Machine,
+    unwinder: &mut Unwinder,
+    slices: &[(usize, u64)],
+    events: &[EventPeriod],
+    mut sampled: impl FnMut(usize, &Trail) -> Read<()>,
+) -> Read<()> {
     let mut all_dues = vec![Dues::of(events); machine.harts.len()];
     let place = |event| events.iter().position(|it| it.event == event).unwrap_or(0);
     let places = [Event::Retired, Event::Loads, Event::Stores, Event::Taken].map(place);
-    let (mut paths, mut trail, mut samples) = (Paths::new(), Trail::new(), 0);
+    let mut trail = Trail::new();
     for (number, count) in slices {
         let (mut left, dues) = (*count, &mut all_dues[*number]);
         while left > 0 && machine.harts[*number].end.is_none() {
@@ -117,23 +192,33 @@ pub fn run(machine: &mut Machine, unwinder: &mut Unwinder, slices: &[(usize, u64
             left -= retired;
             for event in is_retired.then_some(Event::Retired).into_iter().chain(extra).filter(|_| retired == 1) {
                 let place = places[event as usize];
-                samples += 1;
                 dues.0[event as usize] += u64::from(events[place].period);
-                add(&mut paths, *number * events.len() + place, &trail, samples);
+                sampled(*number * events.len() + place, &trail)?;
             }
         }
     }
-    paths
+    Ok(())
 }
 
 /// Counts a sample's path in its column.
 #[inline(always)]
-pub fn add(paths: &mut Paths, column: usize, trail: &Trail, samples: u64) {
+pub fn add(paths: &mut Paths, column: usize, trail: &Trail, samples: u64) -> Read<()> {
     let is_new = paths.add(column, trail, 1);
     if samples > MOST_SAMPLES {
-        refuse("more than 1048576 samples");
+        return too_many_samples();
     }
     if is_new && paths.words.len() > MOST_FRAMES {
-        refuse("more than 4194304 frames");
+        return too_many_frames();
     }
+    Ok(())
+}
+
+#[cold]
+pub fn too_many_samples() -> Read<()> {
+    Err(format!("more than {MOST_SAMPLES} samples"))
+}
+
+#[cold]
+pub fn too_many_frames() -> Read<()> {
+    Err(format!("more than {MOST_FRAMES} frames"))
 }

@@ -1,86 +1,41 @@
-//! Bytes read one after the other, and the forms of values (DWARF 5, section 7.5.6).
+//! The forms of values (DWARF 5, section 7.5.6).
 
-use crate::elf::{half, text, word};
-
-/// A place in bytes.
-pub struct Cursor<'a> {
-    pub bytes: &'a [u8],
-    pub at: usize,
-}
-
-impl<'a> Cursor<'a> {
-    pub fn byte(&mut self) -> u32 {
-        self.at += 1;
-        u32::from(self.bytes[self.at - 1])
-    }
-
-    pub fn half(&mut self) -> u32 {
-        self.at += 2;
-        half(self.bytes, self.at - 2)
-    }
-
-    pub fn word(&mut self) -> u32 {
-        self.at += 4;
-        word(self.bytes, self.at - 4)
-    }
-
-    /// A number of so many bytes, at most eight.
-    pub fn number(&mut self, size: usize) -> u64 {
-        let bytes = &self.bytes[self.at..self.at + size];
-        self.at += size;
-        bytes.iter().rev().fold(0, |number, byte| number << 8 | u64::from(*byte))
-    }
-
-    pub fn uleb(&mut self) -> u64 {
-        let (mut number, mut shift) = (0, 0);
-        loop {
-            let byte = self.bytes[self.at];
-            self.at += 1;
-            number |= u64::from(byte & 127) << shift;
-            shift += 7;
-            if byte < 128 {
-                return number;
-            }
-        }
-    }
-
-    pub fn sleb(&mut self) -> i64 {
-        let start = self.at;
-        let number = self.uleb();
-        let unused = 64 - (7 * (self.at - start)).min(64);
-        (number << unused) as i64 >> unused
-    }
-
-    pub fn text(&mut self) -> &'a [u8] {
-        let text = text(self.bytes, self.at);
-        self.at += text.len() + 1;
-        text
-    }
-}
+use crate::bytes::Cursor;
 
 /// What a value of a form is.
 #[derive(Clone, Copy)]
 pub enum Value<'a> {
     Address(u32),
-    AddressIndex(u32),
+    AddressIndex(u64),
     Number(u64),
+    Signed(i64),
     Text(&'a [u8]),
     Str(u32),
     LineStr(u32),
-    StrIndex(u32),
+    StrIndex(u64),
     Section(u32),
-    ListIndex(u32),
-    UnitRef(u32),
+    ListIndex(u64),
+    UnitRef(u64),
     InfoRef(u32),
     Other,
 }
 
 use Value::*;
 
+/// Why there is no value: its form is not one of DWARF 5, or it isn't whole.
+#[derive(Clone, Copy, PartialEq, Eq)]
+pub enum NoValue {
+    Unknown,
+    Short,
+}
+
+const INDIRECT: u64 = 0x16;
+pub const IMPLICIT_CONST: u64 = 0x21;
+
 /// How many bytes a form has, where all its values have as many.
-pub fn size_of(form: u32) -> Option<usize> {
+pub fn size_of(form: u64) -> Option<usize> {
     Some(match form {
-        0x19 | 0x21 => 0,
+        0x19 | IMPLICIT_CONST => 0,
         0x0b | 0x0c | 0x11 | 0x25 | 0x29 => 1,
         0x05 | 0x12 | 0x26 | 0x2a => 2,
         0x27 | 0x2b => 3,
@@ -91,43 +46,63 @@ pub fn size_of(form: u32) -> Option<usize> {
     })
 }
 
-pub fn value<'a>(cursor: &mut Cursor<'a>, form: u32, implicit: i64) -> Value<'a> {
-    match form {
-        0x01 => Address(cursor.word()),
-        0x0b | 0x05 | 0x06 | 0x07 => Number(cursor.number(size_of(form).expect("a size"))),
-        0x0d => Number(cursor.sleb() as u64),
-        0x0f => Number(cursor.uleb()),
-        0x21 => Number(implicit as u64),
-        0x08 => Text(cursor.text()),
-        0x0e => Str(cursor.word()),
-        0x1f => LineStr(cursor.word()),
-        0x1a => StrIndex(cursor.uleb() as u32),
-        0x25..=0x28 => StrIndex(cursor.number(form as usize - 0x24) as u32),
-        0x1b => AddressIndex(cursor.uleb() as u32),
-        0x29..=0x2c => AddressIndex(cursor.number(form as usize - 0x28) as u32),
-        0x17 => Section(cursor.word()),
-        0x23 => ListIndex(cursor.uleb() as u32),
-        0x10 => InfoRef(cursor.word()),
-        0x11..=0x14 => UnitRef(cursor.number(size_of(form).expect("a size")) as u32),
-        0x15 => UnitRef(cursor.uleb() as u32),
-        0x16 => {
-            let form = cursor.uleb() as u32;
-            value(cursor, form, 0)
+/// A form whose values lie where they are read, and that needs no other one.
+pub fn is_direct(form: u64) -> bool {
+    form != IMPLICIT_CONST
+        && (size_of(form).is_some()
+            || matches!(form, 0x03 | 0x04 | 0x08..=0x0a | 0x0d | 0x0f | 0x15 | 0x18 | 0x1a | 0x1b | 0x22 | 0x23))
+}
+
+pub fn value<'a>(cursor: &mut Cursor<'a>, form: u64, implicit: i64) -> Result<Value<'a>, NoValue> {
+    if form == INDIRECT {
+        let named = cursor.uleb().ok_or(NoValue::Short)?;
+        if !is_direct(named) {
+            return Err(NoValue::Unknown);
+        }
+        return direct(cursor, named).ok_or(NoValue::Short);
+    }
+    if form == IMPLICIT_CONST {
+        return Ok(Signed(implicit));
+    }
+    if !is_direct(form) {
+        return Err(NoValue::Unknown);
+    }
+    direct(cursor, form).ok_or(NoValue::Short)
+}
+
+fn direct<'a>(cursor: &mut Cursor<'a>, form: u64) -> Option<Value<'a>> {
+    let mut sized = || cursor.number(size_of(form).expect("a size"));
+    Some(match form {
+        0x01 => Address(sized()? as u32),
+        0x0b | 0x05 | 0x06 | 0x07 => Number(sized()?),
+        0x0d => Signed(cursor.sleb()?),
+        0x0f => Number(cursor.uleb()?),
+        0x08 => Text(cursor.text()?),
+        0x0e => Str(sized()? as u32),
+        0x1f => LineStr(sized()? as u32),
+        0x1a => StrIndex(cursor.uleb()?),
+        0x25..=0x28 => StrIndex(sized()?),
+        0x1b => AddressIndex(cursor.uleb()?),
+        0x29..=0x2c => AddressIndex(sized()?),
+        0x17 => Section(sized()? as u32),
+        0x23 => ListIndex(cursor.uleb()?),
+        0x10 => InfoRef(sized()? as u32),
+        0x11..=0x14 => UnitRef(sized()?),
+        0x15 => UnitRef(cursor.uleb()?),
+        0x22 => {
+            cursor.uleb()?;
+            Other
         }
         _ => {
             let size = match form {
-                0x0a => cursor.byte() as usize,
-                0x03 => cursor.half() as usize,
-                0x04 => cursor.word() as usize,
-                0x09 | 0x18 => cursor.uleb() as usize,
-                0x22 => {
-                    cursor.uleb();
-                    0
-                }
-                form => size_of(form).expect("a form of DWARF 5"),
+                0x0a => cursor.number(1)?,
+                0x03 => cursor.number(2)?,
+                0x04 => cursor.number(4)?,
+                0x09 | 0x18 => cursor.uleb()?,
+                form => size_of(form).expect("a size") as u64,
             };
-            cursor.at += size;
+            cursor.take(size)?;
             Other
         }
-    }
+    })
 }

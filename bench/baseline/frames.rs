@@ -1,8 +1,11 @@
-//! `.debug_frame`: what the rules of call frames come to at each address, made ready in one pass over each FDE.
+//! `.debug_frame` and `.eh_frame`: what the rules of call frames come to at each address, made ready in one pass over
+//! each FDE.
 
 use std::collections::HashMap;
 
-use crate::cfi::{Cfa, Cie, Cursor, Fault, Rule, Rules};
+use crate::bytes::{Cursor, Read};
+use crate::cfi::{Cfa, Cie, Fault, Rule, Rules};
+use crate::eh_frame;
 use crate::elf::{EXECUTE, Program, Segment};
 use crate::ranges::{FirstRange, NONE};
 
@@ -48,40 +51,59 @@ pub struct Rows {
 }
 
 impl Rows {
-    /// Reads the section of a program, and lays the entry region over what it says.
-    pub fn read(program: &Program) -> Result<Rows, Fault> {
-        let entries = entries(program.debug_frame)?;
+    /// Reads the sections of a program, and lays the entry region over what they say.
+    pub fn read(program: &Program) -> Read<Rows> {
         let (mut rows, mut fdes) = (Rows::default(), Vec::new());
-        let mut cies = HashMap::new();
-        for (at, word, c) in &entries {
-            if *word == u32::MAX {
-                let cie = Cie::read(c.clone()).ok_or(Fault(*at))?;
-                if let Some(cie) = &cie {
-                    cie.begin()?;
-                }
-                cies.insert(*at, cie);
-            }
-        }
-        for (at, word, c) in &entries {
-            if *word != u32::MAX {
-                let cie = cies.get(word).ok_or(Fault(*at))?;
-                if let Some(cie) = cie {
-                    rows.fde(program, cie, c.clone(), *at, &mut fdes)?;
-                }
-            }
-        }
+        let in_section = |name: &'static str| move |fault: Fault| format!("{name} at {}", fault.0);
+        rows.read_debug_frame(program, &mut fdes).map_err(in_section("frames"))?;
+        eh_frame::read(&mut rows, program, &mut fdes).map_err(in_section("eh frames"))?;
         Ok(rows.joined(program, &fdes))
     }
 
-    /// Runs the instructions of an FDE once, and writes down its rows.
-    fn fde(&mut self, program: &Program, cie: &Cie, mut c: Cursor, at: u32, fdes: &mut Vec<Fde>) -> Result<(), Fault> {
-        let (start, size) = (c.number(4).ok_or(Fault(at))?, c.number(4).ok_or(Fault(at))?);
+    /// The entries of `.debug_frame` in their order, up to the first that is at fault. A CIE may come after its FDEs.
+    fn read_debug_frame(&mut self, program: &Program, fdes: &mut Vec<Fde>) -> Result<(), Fault> {
+        let (entries, last) = entries(program.debug_frame, false);
+        let mut cies = HashMap::new();
+        for (at, body) in &entries {
+            let mut c = *body;
+            if c.word() == Some(u32::MAX) {
+                cies.insert(*at, Cie::read(c));
+            }
+        }
+        for (at, body) in &entries {
+            let (fault, mut c) = (|| Fault(*at), *body);
+            let id = c.word().ok_or_else(fault)?;
+            let named = cies.get(if id == u32::MAX { at } else { &id });
+            let cie = named.ok_or_else(fault)?;
+            match (cie, id) {
+                (None, u32::MAX) => return Err(fault()),
+                (Some(None), _) => {}
+                (Some(Some(cie)), u32::MAX) => drop(cie.begin()?),
+                (None, _) => drop((c.word().ok_or_else(fault)?, c.word().ok_or_else(fault)?)),
+                (Some(Some(cie)), _) => {
+                    let (start, size) = (c.word().ok_or_else(fault)?, c.word().ok_or_else(fault)?);
+                    self.fde(program, cie, c, (start, size), fdes)?;
+                }
+            }
+        }
+        last.map_or(Ok(()), Err)
+    }
+
+    /// Runs the instructions of an FDE once, and writes down its rows. Where its CIE's are at fault nothing is.
+    pub fn fde(
+        &mut self,
+        program: &Program,
+        cie: &Cie,
+        mut c: Cursor,
+        (start, size): (u32, u32),
+        fdes: &mut Vec<Fde>,
+    ) -> Result<(), Fault> {
+        let Ok(mut state) = cie.begin() else { return Ok(()) };
         let is_counted = program.counts(start, size);
         let (end, first) = (if is_counted { start + size } else { start }, self.starts.len());
-        let mut state = cie.begin()?;
         state.location = start;
         let mut done = start;
-        while c.at < c.end {
+        while c.left() > 0 {
             let at = c.at as u32;
             state.step(&mut c).ok_or(Fault(at))?;
             if state.location > done && done < end {
@@ -167,31 +189,26 @@ impl Rows {
 }
 
 /// A counted FDE, and which rows are its.
-struct Fde {
+pub struct Fde {
     start: u32,
     end: u32,
     rows: std::ops::Range<usize>,
 }
 
-/// The entries of the section: offset, second word, and the cursor behind that.
-fn entries(bytes: &[u8]) -> Result<Vec<(u32, u32, Cursor<'_>)>, Fault> {
-    let (mut found, mut at) = (Vec::new(), 0);
-    while at < bytes.len() {
-        let fault = Fault(at as u32);
-        let mut c = Cursor { bytes, at, end: bytes.len() };
-        let Some(length) = c.number(4).filter(|length| *length < 0xffff_fff0) else { return Err(fault) };
-        let end = c.at + length as usize;
-        if end > bytes.len() {
-            return Err(fault);
+/// The entries of a section, each with its offset and what is behind its length, and the fault of the length that ends
+/// the list. A length of 0 is passed over, or ends the list too.
+pub fn entries(bytes: &[u8], zero_ends: bool) -> (Vec<(u32, Cursor<'_>)>, Option<Fault>) {
+    let (mut found, mut c) = (Vec::new(), Cursor { bytes, at: 0 });
+    while c.left() > 0 {
+        let at = c.at as u32;
+        match c.part() {
+            None => return (found, Some(Fault(at))),
+            Some(body) if body.left() > 0 => found.push((at, body)),
+            Some(_) if zero_ends => break,
+            Some(_) => {}
         }
-        c.end = end;
-        if length > 0 {
-            let Some(word) = c.number(4) else { return Err(fault) };
-            found.push((at as u32, word, c));
-        }
-        at = end;
     }
-    Ok(found)
+    (found, None)
 }
 
 /// The extent of the first function symbol that holds the entry; else from the entry to the least of what ends it.

@@ -1,8 +1,11 @@
-//! The line tables of DWARF 5: files, and sequences of rows. Well-formed sections alone.
+//! The line tables of DWARF 5: files, and sequences of rows.
 
-use crate::elf::{Debug, Program, text};
-use crate::forms::{Cursor, Value, value};
+use crate::bytes::{Cursor, Read, text_at};
+use crate::elf::{Debug, Program};
+use crate::forms::{Value, is_direct, value};
 use crate::ranges::{FirstRange, NONE};
+
+const MOST_NAME_BYTES: usize = 4096;
 
 #[derive(Clone, Copy)]
 struct Row {
@@ -13,12 +16,14 @@ struct Row {
 
 struct Sequence {
     table: u32,
+    /// The address of its first row, which need not be the least.
+    start: u32,
     rows: Vec<Row>,
     end: u32,
 }
 
 /// A path, and the index of its directory.
-type Named<'a> = (&'a [u8], Option<usize>);
+type Named<'a> = (&'a [u8], Option<u64>);
 
 struct Table<'a> {
     offset: u32,
@@ -41,18 +46,25 @@ struct Encoding {
 }
 
 impl<'a> Lines<'a> {
-    /// The tables at offsets, which ascend; those of other versions have no rows and no files.
-    pub fn read(program: &Program<'a>, offsets: &[u32]) -> Lines<'a> {
+    /// The tables at offsets, which ascend, or the first fault; those of other versions have no rows and no files.
+    pub fn read(program: &Program<'a>, offsets: &[u32]) -> Read<Lines<'a>> {
         let (mut tables, mut sequences) = (Vec::new(), Vec::new());
         for offset in offsets {
-            let mut cursor = Cursor { bytes: program.debug.line, at: *offset as usize };
-            let end = cursor.word() as usize + *offset as usize + 4;
-            if cursor.half() == 5 {
-                tables.push(table(program, cursor, *offset, end, &mut sequences));
+            let fault = |at: u32| format!("lines at {at}");
+            let header = || header(program, *offset).ok_or_else(|| fault(*offset));
+            if let Some((encoding, table, cursor)) = header()? {
+                let ended = |rows: &mut Vec<Row>, end| sequences.extend(sequence(program, *offset, rows, end));
+                rows(&encoding, cursor, ended).map_err(|at| fault(at as u32))?;
+                tables.push(table);
             }
         }
-        let index = FirstRange::of(sequences.iter().map(|sequence| (sequence.rows[0].address, sequence.end)));
-        Lines { tables, sequences, index }
+        let index = FirstRange::of(sequences.iter().map(|sequence: &Sequence| (sequence.start, sequence.end)));
+        Ok(Lines { tables, sequences, index })
+    }
+
+    /// Whether a table of version 5 begins at an offset.
+    pub fn has_table(&self, offset: u32) -> bool {
+        self.tables.binary_search_by_key(&offset, |table| table.offset).is_ok()
     }
 
     /// Table, file and line of the row in force at an address.
@@ -72,101 +84,161 @@ impl<'a> Lines<'a> {
         let named =
             place.ok().and_then(|place| Some((&self.tables[place], self.tables[place].files.get(file as usize)?)));
         let Some((table, (path, index))) = named else { return b"<unknown file>".to_vec() };
-        let directory = index.and_then(|index| table.directories.get(index)).map_or(&[][..], |named| named.0);
+        let directory = index
+            .and_then(|index| table.directories.get(usize::try_from(index).ok()?))
+            .map_or(&[][..], |named| named.0);
         let mut name = Vec::new();
         if !directory.is_empty() && !path.starts_with(b"/") {
             name.extend_from_slice(directory);
             name.push(b'/');
         }
         name.extend_from_slice(path);
-        name.truncate(4096);
+        name.truncate(MOST_NAME_BYTES);
         name
     }
 }
 
-fn table<'a>(
-    program: &Program<'a>,
-    mut cursor: Cursor<'a>,
-    offset: u32,
-    end: usize,
-    sequences: &mut Vec<Sequence>,
-) -> Table<'a> {
-    cursor.at += 2;
-    let start = cursor.word() as usize + cursor.at;
-    let step = cursor.byte();
-    cursor.at += 2;
-    let (base, range, opcode_base) = (i32::from(cursor.byte() as u8 as i8), cursor.byte(), cursor.byte());
-    let lengths = (1..opcode_base).map(|_| cursor.byte()).collect();
+/// The sequence of rows up to an end, if it counts.
+fn sequence(program: &Program, table: u32, rows: &mut Vec<Row>, end: u32) -> Option<Sequence> {
+    let mut rows = std::mem::take(rows);
+    let start = rows.first()?.address;
+    if start >= end || !program.counts(start, end - start) {
+        return None;
+    }
+    // The last of the rows of one address counts.
+    rows.sort_by_key(|row| row.address);
+    Some(Sequence { table, start, rows, end })
+}
+
+/// The header of a table: how its program is encoded, its names, and where its program lies. `Some(None)` where it is
+/// of an earlier version, `None` where it is at fault.
+fn header<'a>(program: &Program<'a>, offset: u32) -> Option<Option<(Encoding, Table<'a>, Cursor<'a>)>> {
+    let mut cursor = Cursor::new(program.debug.line, offset as usize)?.part()?;
+    match cursor.number(2)? {
+        5 => {}
+        2..=4 => return Some(None),
+        _ => return None,
+    }
+    let (address_size, segment_size, header_length) = (cursor.byte()?, cursor.byte()?, cursor.word()?);
+    let mut behind = cursor;
+    behind.take(u64::from(header_length))?;
+    let (step, operations, _) = (cursor.byte()?, cursor.byte()?, cursor.byte()?);
+    let (base, range, opcode_base) = (i32::from(cursor.byte()? as u8 as i8), cursor.byte()?, cursor.byte()?);
+    if address_size != 4 || segment_size != 0 || operations != 1 || range == 0 || opcode_base == 0 {
+        return None;
+    }
+    let lengths = cursor.take(u64::from(opcode_base) - 1)?.iter().map(|length| u32::from(*length)).collect();
     let encoding = Encoding { step, base, range, opcode_base, lengths };
-    let (directories, files) = (names(&program.debug, &mut cursor), names(&program.debug, &mut cursor));
-    rows(&encoding, Cursor { bytes: cursor.bytes, at: start }, end, |rows, end| {
-        let first = rows.first().map_or(end, |row| row.address);
-        if first < end && program.counts(first, end - first) {
-            // The last of the rows of one address counts.
-            rows.sort_by_key(|row| row.address);
-            sequences.push(Sequence { table: offset, rows: std::mem::take(rows), end });
-        }
-        rows.clear();
-    });
-    Table { offset, directories, files }
+    let (directories, files) = (names(&program.debug, &mut cursor)?, names(&program.debug, &mut cursor)?);
+    Some(Some((encoding, Table { offset, directories, files }, behind)))
 }
 
-fn names<'a>(debug: &Debug<'a>, cursor: &mut Cursor<'a>) -> Vec<Named<'a>> {
-    let formats: Vec<(u64, u32)> = (0..cursor.byte()).map(|_| (cursor.uleb(), cursor.uleb() as u32)).collect();
-    let count = cursor.uleb();
-    let named = |_| {
-        let (mut path, mut directory) = (&[][..], None);
-        for (content, form) in &formats {
-            match (content, value(cursor, *form, 0)) {
-                (1, Value::Text(name)) => path = name,
-                (1, Value::Str(offset)) => path = text(debug.str_bytes, offset as usize),
-                (1, Value::LineStr(offset)) => path = text(debug.line_str, offset as usize),
-                (2, Value::Number(index)) => directory = Some(index as usize),
-                _ => {}
-            }
+fn names<'a>(debug: &Debug<'a>, cursor: &mut Cursor<'a>) -> Option<Vec<Named<'a>>> {
+    let mut formats = Vec::new();
+    for _ in 0..cursor.byte()? {
+        let (content, form) = (cursor.uleb()?, cursor.uleb()?);
+        formats.push((content, Some(form).filter(|form| is_direct(*form))?));
+    }
+    let count = cursor.uleb().filter(|count| *count <= cursor.left() as u64)?;
+    (0..count).map(|_| name(debug, cursor, &formats)).collect()
+}
+
+/// A path and the index of its directory; of two of one content the first counts.
+fn name<'a>(debug: &Debug<'a>, cursor: &mut Cursor<'a>, formats: &[(u64, u64)]) -> Option<Named<'a>> {
+    let (mut path, mut directory) = (None, None);
+    for (content, form) in formats {
+        let value = value(cursor, *form, 0).ok()?;
+        match content {
+            1 => path = path.or(Some(value)),
+            2 => directory = directory.or(Some(value)),
+            _ => {}
         }
-        (path, directory)
+    }
+    let path = match path {
+        None => &[][..],
+        Some(Value::Text(name)) => name,
+        Some(Value::Str(offset)) => text_at(debug.str_bytes, offset as usize)?,
+        Some(Value::LineStr(offset)) => text_at(debug.line_str, offset as usize)?,
+        Some(_) => return None,
     };
-    (0..count).map(named).collect()
+    match directory {
+        None => Some((path, None)),
+        Some(Value::Number(index)) => Some((path, Some(index))),
+        Some(_) => None,
+    }
 }
 
-/// Runs a line number program, and hands each sequence's rows and end on.
-fn rows(encoding: &Encoding, mut cursor: Cursor, end: usize, mut ended: impl FnMut(&mut Vec<Row>, u32)) {
-    let start = Row { address: 0, file: 1, line: 1 };
-    let (mut now, mut found) = (start, Vec::new());
-    let advanced = |opcode: u32| (opcode - encoding.opcode_base) / encoding.range * encoding.step;
-    while cursor.at < end {
-        match cursor.byte() {
-            opcode if opcode >= encoding.opcode_base => {
-                now.address = now.address.wrapping_add(advanced(opcode));
-                let line = encoding.base + ((opcode - encoding.opcode_base) % encoding.range) as i32;
-                now.line = now.line.wrapping_add_signed(line);
-                found.push(now);
-            }
-            0 => {
-                let size = cursor.uleb() as usize;
-                let next = cursor.at + size;
-                match cursor.byte() {
-                    1 => {
-                        ended(&mut found, now.address);
-                        now = start;
-                    }
-                    2 => now.address = cursor.word(),
-                    _ => {}
-                }
-                cursor.at = next;
-            }
-            1 => found.push(now),
-            2 => now.address = now.address.wrapping_add((cursor.uleb() as u32).wrapping_mul(encoding.step)),
-            3 => now.line = now.line.wrapping_add(cursor.sleb() as u32),
-            4 => now.file = cursor.uleb() as u32,
-            8 => now.address = now.address.wrapping_add(advanced(255)),
-            9 => now.address = now.address.wrapping_add(cursor.half()),
-            opcode => {
-                for _ in 0..encoding.lengths[opcode as usize - 1] {
-                    cursor.uleb();
-                }
+/// Runs a line number program, and hands each sequence's rows and end on; or gives the offset of the opcode that is at
+/// fault.
+fn rows(encoding: &Encoding, mut cursor: Cursor, mut ended: impl FnMut(&mut Vec<Row>, u32)) -> Result<(), usize> {
+    let mut found = Vec::new();
+    let mut now = START;
+    while cursor.left() > 0 {
+        let at = cursor.at;
+        match encoding.step(&mut cursor, &mut now).ok_or(at)? {
+            Effect::Nothing => {}
+            Effect::Row => found.push(now),
+            Effect::End => {
+                ended(&mut found, now.address);
+                found.clear();
+                now = START;
             }
         }
     }
+    Ok(())
+}
+
+/// What an opcode does beside changing the registers.
+enum Effect {
+    Nothing,
+    Row,
+    End,
+}
+
+const START: Row = Row { address: 0, file: 1, line: 1 };
+
+impl Encoding {
+    fn advanced(&self, opcode: u32) -> u32 {
+        (opcode - self.opcode_base) / self.range * self.step
+    }
+
+    /// An opcode; `None` where it is at fault.
+    #[inline(always)]
+    fn step(&self, cursor: &mut Cursor, now: &mut Row) -> Option<Effect> {
+        let opcode = cursor.byte()?;
+        if opcode >= self.opcode_base {
+            now.address = now.address.wrapping_add(self.advanced(opcode));
+            let line = self.base + ((opcode - self.opcode_base) % self.range) as i32;
+            now.line = now.line.wrapping_add_signed(line);
+            return Some(Effect::Row);
+        }
+        match opcode {
+            0 => return extended(cursor, now),
+            1 => return Some(Effect::Row),
+            2 => now.address = now.address.wrapping_add((cursor.uleb()? as u32).wrapping_mul(self.step)),
+            3 => now.line = now.line.wrapping_add(cursor.sleb()? as u32),
+            4 => now.file = u32::try_from(cursor.uleb()?).ok()?,
+            5 | 12 => drop(cursor.uleb()?),
+            6 | 7 | 10 | 11 => {}
+            8 => now.address = now.address.wrapping_add(self.advanced(255)),
+            9 => now.address = now.address.wrapping_add(cursor.number(2)? as u32),
+            opcode => {
+                for _ in 0..self.lengths[opcode as usize - 1] {
+                    cursor.uleb()?;
+                }
+            }
+        }
+        Some(Effect::Nothing)
+    }
+}
+
+fn extended(cursor: &mut Cursor, now: &mut Row) -> Option<Effect> {
+    let size = cursor.uleb().filter(|size| *size > 0)?;
+    let body = cursor.take(size)?;
+    match (body[0], &body[1..]) {
+        (1, _) => return Some(Effect::End),
+        (2, address) => now.address = u32::from_le_bytes(address.try_into().ok()?),
+        _ => {}
+    }
+    Some(Effect::Nothing)
 }

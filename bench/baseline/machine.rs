@@ -20,8 +20,8 @@ pub struct Hart {
     pub pc: u32,
     /// x0 to x31, of which x0 stays 0, and the sink of what is written to x0.
     pub regs: [u32; 33],
-    /// The retired instructions, by the number of an event: all, and where they are counted the loads, the stores and the
-    /// taken branches.
+    /// The retired instructions, by the number of an event: all, and where they are counted the loads, the stores and
+    /// the taken branches.
     pub done: [u64; 4],
     pub end: Option<End>,
 }
@@ -300,8 +300,8 @@ impl<'a> Machine<'a> {
         Some((inst.op, inst.rs1, inst.rs2))
     }
 
-    /// Has a hart retire up to `most` instructions, and returns how many it did; fewer where it ends. Where `COUNTS` says
-    /// so it counts their events.
+    /// Has a hart retire up to `most` instructions, and returns how many it did; fewer where it ends. Where `COUNTS`
+    /// says so it counts their events.
     pub fn pass<const COUNTS: bool>(&mut self, number: usize, most: u64) -> u64 {
         let mut left = most;
         while left > 0 && self.harts[number].end.is_none() {

@@ -1,18 +1,21 @@
 //! A plain call-path profiler for RV32IM: what the proved program does, written for speed alone, as its measure.
 //!
 //! `baseline [--workers N] [--phases] [--until PHASE] ELF INPUT SCHEDULE PERIOD DB` runs a static ELF32 program, stores
-//! the database, and prints the report. It takes well-formed files alone. PERIOD is that of retired instructions, or a
-//! list of events with theirs.
+//! the database, and prints the report. PERIOD is that of retired instructions, or a list of events with theirs. Files
+//! that the program refuses it refuses alike; `hpc.rs` has the program's own commands, over the same parts.
 //! `baseline merge [--workers N] [--phases] ELF DB MEASURE ..` makes the database and the tables of measurements.
 //! `baseline trace [--phases] ELF INPUT SCHEDULE PERIOD TRACE` stores the trace of a run, and `baseline timeline ELF
 //! TRACE DEPTH CELLS` puts its timeline.
 //! `--phases` writes to standard error what each phase took; `--until` ends after one.
 
+mod abbrevs;
+mod bytes;
 mod cfi;
 mod columns;
 mod database;
 mod decode;
 mod dwarf;
+mod eh_frame;
 mod elf;
 mod events;
 mod forms;
@@ -23,31 +26,30 @@ mod measurements;
 mod memory;
 mod ordered;
 mod ranges;
+mod runs;
+mod schedule;
 mod scopes;
 mod table;
 mod traces;
 mod tree;
 mod unwind;
 
+use std::io::Write;
 use std::process::exit;
 use std::time::Instant;
 
+use bytes::Read;
 use columns::Column;
 use frames::Rows;
 use machine::Machine;
-use measurements::Measured;
+use runs::Runs;
+use schedule::number;
 use scopes::Scopes;
+use traces::Traced;
 use tree::Tree;
-use unwind::{Paths, Trail, Unwinder};
+use unwind::Unwinder;
 
-const MOST_SAMPLES: u64 = 1 << 20;
-const MOST_FRAMES: usize = 1 << 22;
 const PHASES: [&str; 8] = ["start", "read", "run", "tree", "values", "database", "store", "report"];
-
-fn refuse(text: &str) -> ! {
-    eprintln!("hpc: {text}");
-    exit(3)
-}
 
 fn usage() -> ! {
     eprintln!("usage: baseline [--workers N] [--phases] [--until PHASE] ELF INPUT SCHEDULE PERIOD DB");
@@ -114,65 +116,37 @@ impl Clock<'_> {
     }
 }
 
-/// The number of harts, and the slices.
-fn schedule(text: &str) -> (u32, Vec<(usize, u64)>) {
-    let mut lines = text.lines().filter(|line| !line.is_empty() && !line.starts_with('#'));
-    let first = lines.next().expect("a line `harts N`");
-    let harts = first["harts ".len()..].parse().expect("a number of harts");
-    let slice = |line: &str| {
-        let (hart, count) = line.split_once(' ').expect("two numbers");
-        (hart.parse().expect("a hart"), count.parse().expect("a count"))
-    };
-    (harts, lines.map(slice).collect())
-}
-
-/// Runs the slices where retired is the only event. A sample is taken of the state before each instruction whose number
-/// in its hart is a multiple of the period, and counts if that instruction retires.
-fn run(machine: &mut Machine, unwinder: &mut Unwinder, slices: &[(usize, u64)], period: u64) -> Paths {
-    let mut next = vec![period; machine.harts.len()];
-    let (mut paths, mut trail, mut samples) = (Paths::new(), Trail::new(), 0);
-    for (number, count) in slices {
-        let mut left = *count;
-        while left > 0 && machine.harts[*number].end.is_none() {
-            let hart = &machine.harts[*number];
-            let before = next[*number] - hart.done[0] - 1;
-            if before > 0 {
-                left -= machine.pass::<false>(*number, before.min(left));
-                continue;
-            }
-            unwinder.walk(hart.pc, &hart.regs, &mut machine.memory, &mut trail);
-            let retired = machine.pass::<false>(*number, 1);
-            left -= retired;
-            if retired == 1 {
-                samples += 1;
-                next[*number] += period;
-                events::add(&mut paths, *number, &trail, samples);
-            }
-        }
-    }
-    paths
+/// A refusal as the program puts it.
+fn accepted<T>(read: Read<T>) -> T {
+    read.unwrap_or_else(|line| {
+        eprintln!("hpc: {line}");
+        exit(3)
+    })
 }
 
 /// Makes the database and the tables of measurements of one program.
 fn merge(words: &Words, mut clock: Clock) -> std::io::Result<()> {
     let [_, elf, database, names @ ..] = words.files.as_slice() else { usage() };
     let file = std::fs::read(elf)?;
-    let program = elf::Program::read(&file);
-    let scopes = Scopes::read(&program);
+    let program = accepted(elf::Program::read(&file));
+    let scopes = accepted(Scopes::read(&program));
     clock.done("start");
-    let Measured { events, runs, paths } = measurements::read(names, &file)?;
+    let files = names.iter().map(std::fs::read).collect::<std::io::Result<Vec<_>>>()?;
+    let Runs { heads, paths } = accepted(Runs::read(&files));
+    accepted(Runs::judge(&heads, &paths, &program));
+    let (events, runs): (_, Vec<u32>) = (&heads[0].events, heads.iter().map(|head| head.harts).collect());
     clock.done("read");
     let columns = runs.iter().sum::<u32>() as usize * events.len();
-    let tree = Tree::of(&scopes, paths, columns, words.workers);
+    let tree = accepted(Tree::of(&scopes, paths, columns, words.workers));
     clock.done("tree");
     let columns = Column::all(&tree, words.workers);
     clock.done("values");
-    let bytes = database::bytes(&tree, &columns, &events, &runs);
+    let bytes = database::bytes(&tree, &columns, events, &runs);
     clock.done("database");
     std::fs::write(database, &bytes)?;
     clock.done("store");
     drop(bytes);
-    table::merged(&tree, &columns, &events, std::io::stdout().lock())?;
+    table::report(Vec::new(), &tree, &columns, events, std::io::stdout().lock())?;
     clock.done("report");
     Ok(())
 }
@@ -181,28 +155,31 @@ fn merge(words: &Words, mut clock: Clock) -> std::io::Result<()> {
 fn trace(words: &Words, mut clock: Clock) -> std::io::Result<()> {
     let [_, elf, input, text, period, trace] = words.files.as_slice() else { usage() };
     let (file, input) = (std::fs::read(elf)?, std::fs::read(input)?);
-    let (harts, slices) = schedule(&std::fs::read_to_string(text)?);
-    let period: u32 = period.parse().ok().filter(|period| *period > 0).unwrap_or_else(|| usage());
-    let program = elf::Program::read(&file);
-    let rows = Rows::read(&program).unwrap_or_else(|fault| refuse(&format!("frames at {}", fault.0)));
-    let mut unwinder = Unwinder::of(rows);
+    let (harts, slices) = accepted(schedule::read(&std::fs::read(text)?));
+    let period = number(period.as_bytes(), 1, u32::MAX).unwrap_or_else(|| usage());
+    let program = accepted(elf::Program::read(&file));
+    let mut unwinder = Unwinder::of(accepted(Rows::read(&program)));
     let mut machine = Machine::start(&program, harts, &input);
     clock.done("start");
-    let traced = traces::run(&mut machine, &mut unwinder, &slices, u64::from(period));
+    let traced = accepted(Traced::of(&mut machine, &mut unwinder, &slices, period));
     clock.done("run");
     let bytes = traced.bytes(&program, &machine, period);
     clock.done("database");
     std::fs::write(trace, &bytes)?;
     clock.done("store");
-    table::traced(&machine, |hart| traced.samples(hart), period, std::io::stdout().lock())?;
+    let text = table::summary(&machine, &traced.samples(), &[events::retired(period)]);
+    std::io::stdout().write_all(&text)?;
     clock.done("report");
     Ok(())
 }
 
 fn timeline(words: &Words) -> std::io::Result<()> {
-    let [_, elf, trace, depth, cells] = words.files.as_slice() else { usage() };
-    let (depth, cells) = (depth.parse().unwrap_or_else(|_| usage()), cells.parse().unwrap_or_else(|_| usage()));
-    traces::timeline(elf.as_ref(), trace.as_ref(), depth, cells, &mut std::io::stdout().lock())
+    let [_, elf, kept, depth, cells] = words.files.as_slice() else { usage() };
+    let number = |word: &String, most| number(word.as_bytes(), 1, most).unwrap_or_else(|| usage());
+    let (depth, cells) = (number(depth, 64), number(cells, 512));
+    let (file, kept) = (std::fs::read(elf)?, std::fs::read(kept)?);
+    let text = accepted(traces::timeline(&file, &kept, depth as usize, u64::from(cells)));
+    std::io::stdout().write_all(&text)
 }
 
 fn main() -> std::io::Result<()> {
@@ -216,21 +193,16 @@ fn main() -> std::io::Result<()> {
     }
     let [elf, input, text, period, database] = words.files.as_slice() else { usage() };
     let (file, input) = (std::fs::read(elf)?, std::fs::read(input)?);
-    let (harts, slices) = schedule(&std::fs::read_to_string(text)?);
-    let events = events::events_of(period).unwrap_or_else(|| usage());
-    let program = elf::Program::read(&file);
-    let rows = Rows::read(&program).unwrap_or_else(|fault| refuse(&format!("frames at {}", fault.0)));
-    let mut unwinder = Unwinder::of(rows);
-    let scopes = Scopes::read(&program);
+    let (harts, slices) = accepted(schedule::read(&std::fs::read(text)?));
+    let events = events::events_of(period.as_bytes()).unwrap_or_else(|| usage());
+    let program = accepted(elf::Program::read(&file));
+    let mut unwinder = Unwinder::of(accepted(Rows::read(&program)));
+    let scopes = accepted(Scopes::read(&program));
     let mut machine = Machine::start(&program, harts, &input);
     clock.done("start");
-    let paths = if events::is_retired_alone(&events) {
-        run(&mut machine, &mut unwinder, &slices, u64::from(events[0].period))
-    } else {
-        events::run(&mut machine, &mut unwinder, &slices, &events)
-    };
+    let paths = accepted(events::counted(&mut machine, &mut unwinder, &slices, &events));
     clock.done("run");
-    let tree = Tree::of(&scopes, paths, harts as usize * events.len(), words.workers);
+    let tree = accepted(Tree::of(&scopes, paths, harts as usize * events.len(), words.workers));
     clock.done("tree");
     let columns = Column::all(&tree, words.workers);
     clock.done("values");
@@ -239,7 +211,8 @@ fn main() -> std::io::Result<()> {
     std::fs::write(database, &bytes)?;
     clock.done("store");
     drop(bytes);
-    table::report(&machine, &tree, &columns, &events, std::io::stdout().lock())?;
+    let text = table::summary(&machine, &tree.samples(), &events);
+    table::report(text, &tree, &columns, &events, std::io::stdout().lock())?;
     clock.done("report");
     Ok(())
 }

@@ -70,7 +70,7 @@ impl Memory {
         let mut table = vec![0u128; 1 << 20];
         let entries = table.as_mut_ptr().cast();
         let mut memory = Memory { blocks: blocks(&regions), regions, entries, _table: table };
-        for segment in &program.segments {
+        for segment in program.segments.iter().filter(|segment| segment.filled > 0) {
             let bytes = &program.file[segment.offset as usize..][..segment.filled as usize];
             memory.bytes_from(segment.start).expect("a segment's block")[..bytes.len()].copy_from_slice(bytes);
         }

@@ -2,6 +2,7 @@
 
 use std::collections::BTreeSet;
 
+use crate::bytes::Read;
 use crate::dwarf::{Info, Line};
 use crate::elf::Program;
 use crate::lines::Lines;
@@ -15,8 +16,8 @@ pub enum ProcId {
     Nameless,
 }
 
-/// Addresses from a cut up to the next: the number of their subprogram plus 1, or 0, and where the items that are inlined
-/// there stand.
+/// Addresses from a cut up to the next: the number of their subprogram plus 1, or 0, and where the items that are
+/// inlined there stand.
 struct Part {
     start: u32,
     subprogram: u32,
@@ -26,7 +27,7 @@ struct Part {
 
 pub struct Scopes<'a> {
     program: &'a Program<'a>,
-    info: Info<'a>,
+    pub info: Info<'a>,
     pub lines: Lines<'a>,
     functions: FirstRange,
     parts: Vec<Part>,
@@ -35,13 +36,15 @@ pub struct Scopes<'a> {
 }
 
 impl<'a> Scopes<'a> {
-    pub fn read(program: &'a Program<'a>) -> Scopes<'a> {
-        let info = Info::read(program);
-        let lines = Lines::read(program, &info.tables());
+    /// Reads the debug information, or gives its first fault: of entries, line tables, or the structure.
+    pub fn read(program: &'a Program<'a>) -> Read<Scopes<'a>> {
+        let info = Info::read(program)?;
+        let lines = Lines::read(program, &info.tables())?;
+        let info = info.joined(&lines)?;
         let functions = program.function_index();
         let mut scopes = Scopes { program, info, lines, functions, parts: Vec::new(), chains: Vec::new() };
         scopes.cut();
-        scopes
+        Ok(scopes)
     }
 
     /// Cuts the addresses at the starts and ends of all ranges. The open ranges are known by their places, which ascend

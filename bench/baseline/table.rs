@@ -71,9 +71,13 @@ impl<W: Write> Text<W> {
     }
 
     fn name(&mut self, name: &[u8]) {
-        let shown = name.iter().map(|byte| if *byte < 32 || *byte == 127 { b'?' } else { *byte });
-        self.bytes.extend(shown);
+        self.bytes.extend(printed(name));
     }
+}
+
+/// A name as it is printed.
+pub fn printed(name: &[u8]) -> impl Iterator<Item = u8> {
+    name.iter().map(|byte| if *byte < 32 || *byte == 127 { b'?' } else { *byte })
 }
 
 fn end_of(end: Option<End>) -> String {
@@ -86,67 +90,52 @@ fn end_of(end: Option<End>) -> String {
     }
 }
 
-/// The samples of each hart, and of each event, are the sum over its columns' paths.
-pub fn report(
-    machine: &Machine,
-    tree: &Tree,
-    columns: &[Column],
-    events: &[EventPeriod],
-    to: impl Write,
-) -> Result<()> {
-    let samples = |column: usize| tree.ends[column].iter().map(|(_, count)| u64::from(*count)).sum::<u64>();
-    let (harts, count) = (machine.harts.len(), events.len());
-    let all: u64 = (0..columns.len()).map(samples).sum();
-    let mut text = Text { to, bytes: machine.output.clone() };
+/// What a run puts before its tables: what the program wrote, the totals, and a line for each hart; `samples` are those
+/// of each column.
+pub fn summary(machine: &Machine, samples: &[u64], events: &[EventPeriod]) -> Vec<u8> {
+    let (harts, all) = (machine.harts.len(), samples.iter().sum::<u64>());
+    let mut text = machine.output.clone();
     if machine.output.last().is_some_and(|byte| *byte != b'\n') {
-        text.bytes.push(b'\n');
+        text.push(b'\n');
     }
-    if is_retired_alone(events) {
+    let totals = if is_retired_alone(events) {
         let (period, total) = (events[0].period, all * u64::from(events[0].period));
-        writeln!(text.bytes, "harts {harts} period {period} samples {all} total {total}")?;
+        format!("harts {harts} period {period} samples {all} total {total}\n")
     } else {
-        writeln!(text.bytes, "harts {harts} samples {all}")?;
+        format!("harts {harts} samples {all}\n")
+    };
+    text.extend_from_slice(totals.as_bytes());
+    for (number, (hart, found)) in machine.harts.iter().zip(samples.chunks(events.len())).enumerate() {
+        let (found, end) = (found.iter().sum::<u64>(), end_of(hart.end));
+        let line = format!("hart {number} retired {} samples {found} end {end}\n", hart.done[0]);
+        text.extend_from_slice(line.as_bytes());
     }
-    for (number, hart) in machine.harts.iter().enumerate() {
-        let (found, end) = ((number * count..(number + 1) * count).map(samples).sum::<u64>(), end_of(hart.end));
-        writeln!(text.bytes, "hart {number} retired {} samples {found} end {end}", hart.done[0])?;
-    }
-    tables(&mut text, tree, columns, events)
+    text
 }
 
-/// What `trace` puts: the report without its table.
-pub fn traced(machine: &Machine, samples: impl Fn(usize) -> usize, period: u32, mut to: impl Write) -> Result<()> {
-    let harts = machine.harts.len();
-    let all: u64 = (0..harts).map(|hart| samples(hart) as u64).sum();
-    to.write_all(&machine.output)?;
-    if machine.output.last().is_some_and(|byte| *byte != b'\n') {
-        to.write_all(b"\n")?;
+/// The line of an event, where retired is not the only one; `samples` are those of each column.
+pub fn event_line(samples: &[u64], events: &[EventPeriod], place: usize) -> String {
+    if is_retired_alone(events) {
+        return String::new();
     }
-    writeln!(to, "harts {harts} period {period} samples {all} total {}", all * u64::from(period))?;
-    for (number, hart) in machine.harts.iter().enumerate() {
-        let (found, end) = (samples(number), end_of(hart.end));
-        writeln!(to, "hart {number} retired {} samples {found} end {end}", hart.done[0])?;
-    }
-    Ok(())
+    let found: u64 = samples.iter().skip(place).step_by(events.len()).sum();
+    let EventPeriod { event, period } = events[place];
+    format!("event {} period {period} samples {found} total {}\n", event.name(), found * u64::from(period))
 }
 
-/// What `merge` puts: the tables alone.
-pub fn merged(tree: &Tree, columns: &[Column], events: &[EventPeriod], to: impl Write) -> Result<()> {
-    tables(&mut Text { to, bytes: Vec::new() }, tree, columns, events)
+/// Puts a text, and the table of each event behind it.
+pub fn report(text: Vec<u8>, tree: &Tree, columns: &[Column], events: &[EventPeriod], to: impl Write) -> Result<()> {
+    tables(Text { to, bytes: text }, tree, columns, events)
 }
 
-fn tables<W: Write>(text: &mut Text<W>, tree: &Tree, columns: &[Column], events: &[EventPeriod]) -> Result<()> {
-    let samples = |column: usize| tree.ends[column].iter().map(|(_, count)| u64::from(*count)).sum::<u64>();
-    let count = events.len();
+fn tables<W: Write>(mut text: Text<W>, tree: &Tree, columns: &[Column], events: &[EventPeriod]) -> Result<()> {
+    let (samples, count) = (tree.samples(), events.len());
     for (place, it) in events.iter().enumerate() {
-        let found: u64 = (place..columns.len()).step_by(count).map(samples).sum();
-        if !is_retired_alone(events) {
-            let (name, period, total) = (it.event.name(), it.period, found * u64::from(it.period));
-            writeln!(text.bytes, "event {name} period {period} samples {found} total {total}")?;
-        }
+        text.bytes.extend_from_slice(event_line(&samples, events, place).as_bytes());
         text.bytes.extend_from_slice(b"       inclusive      %            frame  scope\n");
         let own: Vec<&Column> = columns.iter().skip(place).step_by(count).collect();
-        rows(text, tree, &own, it.period, found)?;
+        let found = samples.iter().skip(place).step_by(count).sum();
+        rows(&mut text, tree, &own, it.period, found)?;
     }
     text.flush()
 }

@@ -100,4 +100,5 @@ def main():
         (args.folder / name).write_bytes(section)
 
 
-main()
+if __name__ == "__main__":
+    main()

@@ -123,4 +123,5 @@ def main():
     args.file.write_bytes(program(args.kind, args.bytes))
 
 
-main()
+if __name__ == "__main__":
+    main()

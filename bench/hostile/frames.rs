@@ -1,6 +1,9 @@
 //! A plain reader of `.eh_frame`: `frames FILE` carries out the instructions of each CIE and FDE once, finds which FDE is
 //! the first at each address, and says how many FDEs have a range that counts. Of a program that `frames.py` writes: CIEs
 //! without augmentation, addresses of four bytes.
+#[path = "../baseline/bytes.rs"]
+#[allow(dead_code)]
+mod bytes;
 #[path = "../baseline/cfi.rs"]
 #[allow(dead_code)]
 mod cfi;
@@ -8,7 +11,8 @@ mod cfi;
 #[allow(dead_code)]
 mod ranges;
 
-use cfi::{Cie, Cursor};
+use bytes::Cursor;
+use cfi::Cie;
 use ranges::FirstRange;
 
 fn word(bytes: &[u8], at: usize) -> u32 {
@@ -53,9 +57,9 @@ fn entries(bytes: &[u8]) -> Vec<(u32, u32)> {
 
 /// The range of an FDE, when its instructions are carried out.
 fn fde(cie: &Cie, mut c: Cursor) -> (u32, u32) {
-    let (start, size) = (c.number(4).expect("a start"), c.number(4).expect("a size"));
+    let (start, size) = (c.word().expect("a start"), c.word().expect("a size"));
     let mut state = cie.begin().ok().expect("instructions");
-    while c.at < c.end {
+    while c.left() > 0 {
         state.step(&mut c).expect("an instruction");
     }
     (start, start + size)
@@ -66,7 +70,7 @@ fn main() {
     let file = std::fs::read(name).expect("the file");
     let (bytes, low, high) = section(&file);
     let (mut cies, mut ranges) = (Vec::new(), Vec::new());
-    let cursor = |at: u32, end: u32| Cursor { bytes, at: at as usize + 8, end: end as usize };
+    let cursor = |at: u32, end: u32| Cursor { bytes: &bytes[..end as usize], at: at as usize + 8 };
     for (at, end) in entries(bytes) {
         let distance = word(bytes, at as usize + 4);
         if distance == 0 {

@@ -112,17 +112,22 @@ class Browser:
     def write(self, text):
         self.ask("Input.insertText", text=text)
 
-    def mouse(self, kind, x, y, count=1):
-        """`mouseMoved`, `mousePressed` or `mouseReleased`; a double click has the count 1, and then 2."""
+    def mouse(self, kind, x, y, count=1, at=None):
+        """`mouseMoved`, `mousePressed` or `mouseReleased`, now or at a time; a double click has the count 1, and then
+        2."""
         self.is_pressed = kind == "mousePressed" or kind == "mouseMoved" and self.is_pressed
         is_free = kind == "mouseMoved" and not self.is_pressed
         words = {"button": "none"} if is_free else {"button": "left", "clickCount": count}
+        if at:
+            words["timestamp"] = at
         self.ask("Input.dispatchMouseEvent", type=kind, x=x, y=y, buttons=int(self.is_pressed), **words)
 
     def click(self, x, y, count=1):
+        # The clicks are of one time: a machine that is busy takes long from one to the next.
+        now = time.time()
         for number in range(1, count + 1):
             for kind in ("mousePressed", "mouseReleased"):
-                self.mouse(kind, x, y, number)
+                self.mouse(kind, x, y, number, now)
 
     def click_on(self, selector):
         """A click in the middle of an element."""

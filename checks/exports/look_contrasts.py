@@ -1,5 +1,5 @@
-"""The contrast of all text of the page with what lies behind it, as WCAG 2 defines it: over each rule of the style
-sheet that gives a colour, in both schemes, at each width, and under the pointer and the focus too."""
+"""The contrast of all text and bars of the page with what lies behind them, as WCAG 2 defines it: over each rule of the
+style sheet that gives a colour, in both schemes, at each width, and under the pointer and the focus too."""
 import browser
 from exporter import complain, same
 
@@ -37,6 +37,13 @@ const look = (element, state) => {
       if (ratio(color, back) < LEAST || Number(style.opacity) < 1)
         low.push([state, element.id || element.className, element.textContent.slice(0, 20), ratio(color, back)]);
 };
+// A bar has no text, and is told from what lies behind it by its own colour.
+const isBar = element => element.matches("#bars > div") && element.getClientRects().length > 0;
+const lookAtBar = bar => {
+  const color = numbers(getComputedStyle(bar).backgroundColor);
+  for (const back of behind(bar.parentElement))
+    if (ratio(color, back) < LEAST) low.push(["bar", bar.title, ratio(color, back)]);
+};
 
 // The rules that hold at this width and in this scheme, as they are written; those of a state once more for a class.
 const STATES = /:(hover|focus-visible|focus|active)\b/g;
@@ -66,7 +73,8 @@ for (const {selectorText} of rules)
     let texts = 0;
     for (const element of found) {
       const parts = [element, ...element.querySelectorAll("*")].filter(isText);
-      texts += parts.length;
+      texts += parts.length + isBar(element);
+      if (isBar(element)) lookAtBar(element);
       element.classList.add(...states);
       parts.forEach(part => look(part, selector));
       element.classList.remove(...states);

@@ -228,7 +228,8 @@ def look_at_moves(window, page, traced):
     tab_to(window, "#time-area")
     window.press("PageDown")
     same("Page Down goes on", stretch()[0] > inner[0], True)
-    same("what keys show is read", window.run(STATE)["said"], window.run(STATE)["range"])
+    state = window.run(DRAWN + STATE)
+    same("what keys show is read", state["said"], state["range"])
     window.press("PageUp", "PageUp", "PageUp")
     same("Page Up comes to the start", stretch()[0], 0)
     window.press("Escape")
@@ -269,7 +270,7 @@ def look_at_link(window, page):
     """Depth and instructions come again by the address."""
     window.run("view.timeline.setDepth(1); view.timeline.show(10, 40);")
     window.run("await new Promise(done => setTimeout(done, 300));")
-    wanted, fragment = window.run(STATE), window.run("return location.hash;")
+    wanted, fragment = window.run(DRAWN + STATE), window.run("return location.hash;")
     window.open(page, fragment=fragment)
     found = window.run(DRAWN + STATE)
     for part in ("depth", "from", "to", "range", "key"):

@@ -13,6 +13,14 @@ STATS_HEADER = f"{'profiles':>8} {'sum':>16} {'least':>16} {'greatest':>16} {'sq
 KINDS = ("exclusive", "frame", "inclusive")
 
 
+UNPRINTED = bytes(0x3F if byte < 32 or byte == 127 else byte for byte in range(256))
+
+
+def text_of(name):
+    """A name as it is printed; bytes that are no UTF-8 come out again where the text is encoded so."""
+    return name.translate(UNPRINTED).decode(errors="surrogateescape")
+
+
 def line_order(line):
     return (1, line) if isinstance(line, int) else (0, line[0], line[1], line[3])
 
@@ -92,16 +100,16 @@ def of_event(profile, events, place):
 
 
 def place(line):
-    return f"0x{line:08x}" if isinstance(line, int) else f"{line[2].decode()}:{line[3]}"
+    return f"0x{line:08x}" if isinstance(line, int) else f"{text_of(line[2])}:{line[3]}"
 
 
 def label(scope):
     if scope[0] == "root":
         return ROOTS[scope[1]]
     if scope[0] == "proc":
-        return scope[1][2].decode()
+        return text_of(scope[1][2])
     if scope[0] == "inline":
-        return f"[I] {scope[1][2].decode()} called at {place(scope[2])}"
+        return f"[I] {text_of(scope[1][2])} called at {place(scope[2])}"
     return ("call at " if scope[0] == "call" else "") + place(scope[1])
 
 
@@ -160,7 +168,7 @@ def callers(profile, period, depth):
     def below(chain):
         found = [run for run in inclusive if run[:-1] == chain]
         for run in sorted(found, key=lambda run: (-inclusive[run], run[-1][:2])):
-            name = ("<- " if chain else "") + run[-1][2].decode()
+            name = ("<- " if chain else "") + text_of(run[-1][2])
             rows.append(row(len(chain), inclusive[run] * period, exclusive[run] * period, total, name))
             below(run)
 
@@ -185,7 +193,7 @@ def callees(profile, period, depth):
     def below(chain):
         found = [run for run in inclusive if run[:-1] == chain]
         for run in sorted(found, key=lambda run: (-inclusive[run], run[-1][:2])):
-            name = ("-> " if chain else "") + run[-1][2].decode()
+            name = ("-> " if chain else "") + text_of(run[-1][2])
             rows.append(row(len(chain), inclusive[run] * period, exclusive[run] * period, total, name))
             below(run)
 
@@ -235,7 +243,7 @@ def flat(profile, period):
             keys = [(file,), (file, procedure[:2]), (file, procedure[:2], number)]
             found.append(keys)
             written = f"0x{line:08x}" if isinstance(line, int) else f"line {line[3]}"
-            names.update(zip(keys, (file.decode(), procedure[2].decode(), written)))
+            names.update(zip(keys, (text_of(file), text_of(procedure[2]), written)))
         for key in {key for keys in found for key in keys}:
             inclusive[key] += count
         for key in found[-1]:

@@ -1,6 +1,7 @@
 -- What is made of a run's samples that were counted, planned and merged.
-use Rattle.std.proofs.Common.{◌≡◌, ℕ, ◌<◌, nat_lt, Bool, true, false, if◌then◌else◌, IsTrue, List, [], ◌∷◌, ◌++◌, length, sum, All, Result, Ok, Err, refl, sym, ap, subst, ◌∙◌, arith}
+use Rattle.std.proofs.Common.{◌≡◌, ℕ, ◌<◌, nat_lt, Bool, true, false, if◌then◌else◌, IfOk, IsTrue, List, [], ◌∷◌, ◌++◌, length, sum, All, Result, Ok, Err, refl, sym, ap, subst, ◌∙◌, arith}
 use Rattle.prof_bytes.specs.declared.fail.Fail.{Fail}
+use Rattle.prof_bytes.specs.declared.fail.Memory.{Memory}
 use Rattle.prof_bytes.specs.declared.fail.Fail.TheVariants as fails
 use Rattle.prof_bytes.specs.Outcome.{◌>>=◌, FailsBy}
 use Rattle.scope_types.specs.declared.event.EventPeriod.{EventPeriod}
@@ -40,7 +41,7 @@ use Rattle.hpc_top.specs.Product.{Product}
 use Rattle.hpc_top.specs.commands.Profile.{Profiled, product_of, profile_of, profiled, profiled_of}
 use Rattle.hpc_top.specs.private.Counting.{IsCount}
 use Rattle.hpc_top.specs.private.EventTexts.{lines_of_events, tables_in}
-use Rattle.hpc_top.specs.private.Merging.{HasTables, IsMergeOf, Merges, few_planned}
+use Rattle.hpc_top.specs.private.Merging.{CrewMerges, HasTables, IsMergeOf, Merges, few_planned}
 use Rattle.hpc_top.specs.private.Profiling.{IsMadeBy, IsProfileOf, IsReportOf, Profiles}
 use Rattle.hpc_top.proofs.Contents.{period_there, there_within}
 use Rattle.hpc_top.proofs.EventTables.{tables_are}
@@ -140,29 +141,43 @@ tables_of scopes events runs samples ps c each place event is =
     each place (there_within events place event is)
     ∙ ap (λ (period : ℕ). top_down period (sum runs) (naming_of scopes) (paths_of_event (length events) place ps)) (period_there events place event is)
 
-pub merge_is : (by : Merging) (scopes : ProgramScopes) (events : List EventPeriod) (runs : List ℕ) (ccts : List (List Counted)) (samples : List ColumnRaw) → ccts ≡ distinct (columns_of (length events) runs) samples → SamplesHeld → All (λ s. s.column < columns_of (length events) runs) samples → (plan : Planned) (m : Merged)
-    → few_planned (call_path (found_at scopes)) ccts ≡ Ok plan → by.gives m.crew → IsOfPlan (expanded plan (call_path (found_at scopes))) m.crew → (IsTrue by.whole → IsWhole (expanded plan (call_path (found_at scopes))) by.workers m.crew)
-    → m.content ≡ event_content_of events runs (naming_of scopes) (named_paths m.crew.stripes) → HasTables m.content (samples_as scopes events runs samples) (named_paths m.crew.stripes)
-    → Merges by (Ok m) (attributed scopes events runs samples)
-merge_is by scopes events runs ccts samples counts held own plan m planned_by gives of whole content_is tables =
+pub crew_is : (by : Merging) (scopes : ProgramScopes) (events : List EventPeriod) (runs : List ℕ) (ccts : List (List Counted)) (samples : List ColumnRaw) → ccts ≡ distinct (columns_of (length events) runs) samples → SamplesHeld → All (λ s. s.column < columns_of (length events) runs) samples → (plan : Planned) (crew : Crew) (columns : ℕ)
+    → few_planned (call_path (found_at scopes)) ccts ≡ Ok plan → by.gives crew → IsOfPlan (expanded plan (call_path (found_at scopes))) crew → (IsTrue by.whole → IsWhole (expanded plan (call_path (found_at scopes))) by.workers crew)
+    → CrewMerges by (Ok (crew, columns)) (attributed scopes events runs samples)
+crew_is by scopes events runs ccts samples counts held own plan crew columns planned_by gives of whole =
     let expand : Raw → List Scope = call_path (found_at scopes) in
     let is = planned ccts (nat_lt most_scopes_in_all (scopes_in expand ccts)) plan planned_by in
     let a : Attributed = samples_as scopes events runs samples in
     let is_plan : expanded plan expand ≡ sample_plan a = ap (λ (p : Planned). expanded p expand) is.1 ∙ ap (λ (ts : List (List Counted)). expanded (plan_of ts) expand) counts in
-    let plan_is : m.crew.stripes.view.plan ≡ sample_plan a = of.plan ∙ is_plan in (
+    let plan_is : crew.stripes.view.plan ≡ sample_plan a = of.plan ∙ is_plan in (
       a,
       by_scopes scopes events runs ccts samples counts false is.0,
       record {
         gives = gives;
-        plan = subst (λ (chunks : Chunks). IsOfPlan chunks m.crew) is_plan of;
-        content = content_is;
-        tables = tables;
-        crew = λ all_merged. subst (λ (chunks : Chunks). IsWhole chunks by.workers m.crew) is_plan (whole all_merged);
+        plan = subst (λ (chunks : Chunks). IsOfPlan chunks crew) is_plan of;
+        whole = λ all_merged. subst (λ (chunks : Chunks). IsWhole chunks by.workers crew) is_plan (whole all_merged);
         paths = λ all_merged.
-            let fit : AllFit m.crew.stripes.view.plan m.crew.stripes.stripes = subst (λ (chunks : Chunks). AllFit chunks m.crew.stripes.stripes) (sym of.plan) of.fit in
-            held m.crew.stripes (columns_of (length events) runs) samples expand fit (names_all m.crew (expanded plan expand) of.plan (whole all_merged).names) plan_is own;
+            let fit : AllFit crew.stripes.view.plan crew.stripes.stripes = subst (λ (chunks : Chunks). AllFit chunks crew.stripes.stripes) (sym of.plan) of.fit in
+            held crew.stripes (columns_of (length events) runs) samples expand fit (names_all crew (expanded plan expand) of.plan (whole all_merged).names) plan_is own;
       },
     )
+
+-- and the content of the pieces that the crew's stripes name
+pub merge_is : (by : Merging) (scopes : ProgramScopes) (events : List EventPeriod) (runs : List ℕ) (samples : List ColumnRaw) (crew : Crew) (columns : ℕ) (made : Result EventContent Memory) → CrewMerges by (Ok (crew, columns)) (attributed scopes events runs samples)
+    → IfOk made (λ content. content ≡ event_content_of events runs (naming_of scopes) (named_paths crew.stripes))
+    → ((place : ℕ) → place < length events → IfOk made (λ content. content_table (content_of_event content place) ≡ top_down (period_at events place) (sum runs) (naming_of scopes) (paths_of_event (length events) place (named_paths crew.stripes))))
+    → IfOk made (λ content. Merges by (Ok (record { content = content; crew = crew })) (attributed scopes events runs samples))
+merge_is by scopes events runs samples crew columns (Ok content) (a, is, merged) content_is tables =
+    let same : samples_as scopes events runs samples ≡ a = sym (attributed_as scopes events runs samples a is) in (
+      a,
+      is,
+      record {
+        by_crew = merged;
+        content = subst (λ (q : Attributed). content ≡ event_content q (named_paths crew.stripes)) same content_is;
+        tables = subst (λ (q : Attributed). HasTables content q (named_paths crew.stripes)) same (tables_of scopes events runs samples (named_paths crew.stripes) content tables);
+      },
+    )
+merge_is by scopes events runs samples crew columns (Err memory) merged content_is tables = tt
 
 -- ---- a run's profile
 
@@ -205,10 +220,10 @@ report_is m content made database report text lines = record { database = databa
 
 module _ (by : Merging) (contents : ContentsAlike) (tables : TablesAlike) (each : EventsAlike) where
   pub all_content : (a : Attributed) (m : Merged) → IsMergeOf by a m → IsTrue by.whole → m.content ≡ event_content a (call_paths_of a)
-  all_content a m is all_merged = is.content ∙ contents a.events a.runs (naming_of a.scopes) (named_paths m.crew.stripes) (call_paths_of a) (is.paths all_merged)
+  all_content a m is all_merged = is.content ∙ contents a.events a.runs (naming_of a.scopes) (named_paths m.crew.stripes) (call_paths_of a) (is.by_crew.paths all_merged)
 
   all_tables : (a : Attributed) (m : Merged) → IsMergeOf by a m → IsTrue by.whole → HasTables m.content a (call_paths_of a)
-  all_tables a m is all_merged = same_tables tables each a (named_paths m.crew.stripes) (call_paths_of a) (is.paths all_merged) m.content is.tables
+  all_tables a m is all_merged = same_tables tables each a (named_paths m.crew.stripes) (call_paths_of a) (is.by_crew.paths all_merged) m.content is.tables
 
   -- database and tables alone
   pub attribution_is : (wanted : Result Attributed InputFault) (events : List EventPeriod) (samples : List ColumnRaw) (m : Merged) (made : Product) → Merges by (Ok m) wanted → ((a : Attributed) → wanted ≡ Ok a → (a.events ≡ events) × (a.samples ≡ samples)) → IsTrue by.whole
@@ -230,13 +245,13 @@ module _ (by : Merging) (contents : ContentsAlike) (tables : TablesAlike) (each 
       let lines : lines_of_events p.measured.events p.measured.samples ≡ lines_of_events a.events a.samples = (λ i. lines_of_events (sym is.same_events i) (sym is.same_samples i)) in
       let report : made.report ≡ lines_of p.measured ++ tables_in (lines_of_events a.events a.samples) m.content = parts.made_of.report ∙ ap (λ (ls : List (List ℕ)). lines_of p.measured ++ tables_in ls m.content) lines in
       record {
-        gives = here.gives;
-        plan = here.plan;
+        gives = here.by_crew.gives;
+        plan = here.by_crew.plan;
         product =
             let s = parts.made_of.database ∙ ap events_spelling here.content in
             let t = report ∙ ap (λ (text : List ℕ). lines_of p.measured ++ text) (tables_are a (named_paths made.crew.stripes) m.content here.tables) in
             λ i. record { stored = s i; text = t i };
-        crew = here.crew;
+        crew = here.by_crew.whole;
         whole = λ all_merged.
             let s = parts.made_of.database ∙ ap events_spelling (all_content a m here all_merged) in
             let t = report ∙ ap (λ (text : List ℕ). lines_of p.measured ++ text) (tables_are a (call_paths_of a) m.content (all_tables a m here all_merged)) in

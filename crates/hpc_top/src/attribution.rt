@@ -13,7 +13,7 @@ ghost use Rattle.hpc_top.specs.private.Products.{attribution_or};
 
 use crate::both::database_and_tables;
 use crate::events::event_lines;
-use crate::merged::{Merge, Merged, merge_samples};
+use crate::merged::{Merge, content_of_crew, crew_of};
 use crate::product::{Product, no_text};
 use crate::scopes::scopes_of;
 use command_line::InputFault;
@@ -29,30 +29,33 @@ use std::thread::Threads;
 use thread_cct::Ccts;
 use tree_types::{counts_decide, event_content_holds_its_paths, event_paths_are_paths};
 
-/// What is made of counted samples, unless these have too many scopes.
+/// What is made of counted samples, unless these have too many scopes. The samples are dropped once they are merged,
+/// and the crew's stripes before the database and the tables are made.
 fn attribute_counted<R: Threads + Sync, C: Crews>(
     rt: &R,
     alloc: Global,
     merge: &Merge<'_, C>,
     finder: &Finder<'_>,
-    ccts: &Ccts,
+    ccts: Ccts,
 ) -> Result<Product, Fail<InputFault>>
     requires events { AreEvents merge.now.events.now }
     requires runs { AreRuns merge.now.runs.now }
-    requires columns { length ccts.now ≡ columns_of (length merge.now.events.now) merge.now.runs.now }
+    requires columns { length ccts ≡ columns_of (length merge.now.events.now) merge.now.runs.now }
     requires workers { AreWorkers merge.now.workers }
     requires whole { IsTrue (C.whole merge.now.crews.now) }
-    ensures { (samples : List ColumnRaw) → ccts.now ≡ distinct (length ccts.now) samples
-        → All (λ s. s.column < length ccts.now) samples → samples_in ccts.now ≡ length samples
+    ensures { (samples : List ColumnRaw) → ccts ≡ distinct (length ccts) samples
+        → All (λ s. s.column < length ccts) samples → samples_in ccts ≡ length samples
         → Gives (λ p. p) result
         (attribution_or (attributed finder.now merge.now.events.now merge.now.runs.now samples)) }
 {
     counts_decide();
     event_content_holds_its_paths();
     event_paths_are_paths();
-    let merged = merge_samples(rt, alloc, merge, finder, ccts)?;
-    let lines = event_lines(alloc, merge.events, ccts)?;
-    let Merged { content, .. } = merged;
+    let (crew, columns) = crew_of(rt, alloc, merge, finder, &ccts)?;
+    let lines = event_lines(alloc, merge.events, &ccts)?;
+    drop(ccts);
+    let content = content_of_crew(rt, alloc, merge, finder, &crew, columns)?;
+    drop(crew);
     let (stored, text) = database_and_tables(rt, alloc, no_text(alloc), lines.as_slice(), content)?;
     Ok(Product { stored, text })
 }
@@ -65,18 +68,18 @@ fn attribute_scopes<R: Threads + Sync, C: Crews>(
     image: &Image<'_>,
     lines: &LineTable<'_>,
     structure: &Structure<'_>,
-    ccts: &Ccts,
+    ccts: Ccts,
 ) -> Result<Product, Fail<InputFault>>
     requires events { AreEvents merge.now.events.now }
     requires runs { AreRuns merge.now.runs.now }
-    requires columns { length ccts.now ≡ columns_of (length merge.now.events.now) merge.now.runs.now }
+    requires columns { length ccts ≡ columns_of (length merge.now.events.now) merge.now.runs.now }
     requires workers { AreWorkers merge.now.workers }
-    requires measured { AreMeasured ccts.now }
+    requires measured { AreMeasured ccts }
     requires whole { IsTrue (C.whole merge.now.crews.now) }
     ensures { Gives (λ p. p) result
         (attribution_or
         (attributed (record { structure = structure.now; lines = lines.now; image = image.now })
-        merge.now.events.now merge.now.runs.now (each_sample ccts.now))) }
+        merge.now.events.now merge.now.runs.now (each_sample ccts))) }
 {
     measurements_count_samples();
     let finder = Finder::of(alloc, structure, lines, image)?;
@@ -89,16 +92,16 @@ pub fn attribute_code<R: Threads + Sync, C: Crews>(
     alloc: Global,
     merge: &Merge<'_, C>,
     image: &Image<'_>,
-    ccts: &Ccts,
+    ccts: Ccts,
 ) -> Result<Product, Fail<InputFault>>
     requires events { AreEvents merge.now.events.now }
     requires runs { AreRuns merge.now.runs.now }
-    requires columns { length ccts.now ≡ columns_of (length merge.now.events.now) merge.now.runs.now }
+    requires columns { length ccts ≡ columns_of (length merge.now.events.now) merge.now.runs.now }
     requires workers { AreWorkers merge.now.workers }
-    requires measured { AreMeasured ccts.now }
+    requires measured { AreMeasured ccts }
     requires whole { IsTrue (C.whole merge.now.crews.now) }
     ensures { Gives (λ p. p) result
-        (attributed_code image.now merge.now.events.now merge.now.runs.now ccts.now) }
+        (attributed_code image.now merge.now.events.now merge.now.runs.now ccts) }
 {
     let (lines, structure) = scopes_of(alloc, image)?;
     attribute_scopes(rt, alloc, merge, image, &lines, &structure, ccts)

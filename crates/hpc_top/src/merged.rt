@@ -1,5 +1,5 @@
 //! Counted samples, merged by a crew.
-ghost use Rattle.std.specs.Prelude.{◌≡◌, ◌<◌, ◌≤◌, ℕ, All, IfOk, List, length, sum};
+ghost use Rattle.std.specs.Prelude.{◌≡◌, ◌<◌, ◌≤◌, ℕ, All, IfOk, List, Ok, length, sum};
 ghost use Rattle.prof_bytes.specs.Outcome.{Gives};
 ghost use Rattle.scope_find.specs.Found.{found_at, naming_of};
 ghost use Rattle.scope_types.specs.CallPaths.{ColumnPath};
@@ -16,7 +16,7 @@ ghost use Rattle.tree_types.specs.OfContent.{IsEventProfile, content_of_event, c
 ghost use Rattle.tree_types.specs.TopDown.{top_down};
 ghost use Rattle.hpc_top.specs.Attribution.{attributed};
 ghost use Rattle.hpc_top.specs.Merged.{merging};
-ghost use Rattle.hpc_top.specs.private.Merging.{AreRuns, IsTreeOf, Merges, few_planned};
+ghost use Rattle.hpc_top.specs.private.Merging.{AreRuns, CrewMerges, IsTreeOf, Merges, few_planned};
 
 use crate::events::{copied_events, periods_of};
 use command_line::InputFault;
@@ -149,6 +149,72 @@ fn content_named<R: Threads + Sync>(
     content_of_tree(rt, alloc, events, runs, expander, tree)
 }
 
+/// What a crew merges of counted samples, and the number of their columns, unless these have too many scopes.
+pub fn crew_of<R: Threads + Sync, C: Crews>(
+    rt: &R,
+    alloc: Global,
+    merge: &Merge<'_, C>,
+    finder: &Finder<'_>,
+    ccts: &Ccts,
+) -> Result<(Crew, u32), Fail<InputFault>>
+    requires columns { length ccts.now ≡ columns_of (length merge.now.events.now) merge.now.runs.now }
+    requires workers { (1 ≤ merge.now.workers) × (merge.now.workers ≤ most_workers) }
+    ensures merged { (samples : List ColumnRaw) → ccts.now ≡ distinct (length ccts.now) samples
+        → All (λ s. s.column < length ccts.now) samples
+        → CrewMerges (merging (C.gives merge.now.crews.now) (C.whole merge.now.crews.now) merge.now.workers) result
+        (attributed finder.now merge.now.events.now merge.now.runs.now samples) }
+    ensures columns { IfOk result (λ merged. merged.1 ≡ length ccts.now) }
+    ensures held { IfOk result (λ merged. AreJoinable merged.0.stripes merged.1) }
+{
+    call_paths_have_roots();
+    plans_can_be_merged();
+    stripes_hold_the_samples();
+    stripes_hold_their_pieces();
+    let expander = Expander::of(alloc, finder);
+    let plan = plan_of(alloc, ccts, &expander)?;
+    let columns = plan.columns();
+    let crew = merge
+        .crews
+        .merge(rt, alloc, &plan, &expander, merge.workers)?;
+    Ok((crew, columns))
+}
+
+/// The content of the pieces that a crew's stripes name, where the crew merged samples of so many columns.
+pub fn content_of_crew<R: Threads + Sync, C: Crews>(
+    rt: &R,
+    alloc: Global,
+    merge: &Merge<'_, C>,
+    finder: &Finder<'_>,
+    crew: &Crew,
+    columns: u32,
+) -> Result<EventContent, Memory>
+    requires events { AreEvents merge.now.events.now }
+    requires runs { AreRuns merge.now.runs.now }
+    requires columns { columns ≡ columns_of (length merge.now.events.now) merge.now.runs.now }
+    requires held { AreJoinable crew.now.stripes columns }
+    ensures merged { (samples : List ColumnRaw)
+        → CrewMerges (merging (C.gives merge.now.crews.now) (C.whole merge.now.crews.now) merge.now.workers)
+        (Ok (crew.now, columns)) (attributed finder.now merge.now.events.now merge.now.runs.now samples)
+        → IfOk result (λ content.
+        Merges (merging (C.gives merge.now.crews.now) (C.whole merge.now.crews.now) merge.now.workers)
+        (Ok (record { content = content; crew = crew.now }))
+        (attributed finder.now merge.now.events.now merge.now.runs.now samples)) }
+    ensures profile { IfOk result (λ content. IsEventProfile content) }
+    ensures runs { IfOk result (λ content. content.runs ≡ merge.now.runs.now) }
+    ensures events { IfOk result (λ content. content.events ≡ merge.now.events.now) }
+{
+    let expander = Expander::of(alloc, finder);
+    content_named(
+        rt,
+        alloc,
+        merge.events,
+        merge.runs,
+        columns,
+        &expander,
+        &crew.stripes,
+    )
+}
+
 /// What is merged of counted samples, unless these have too many scopes.
 pub fn merge_samples<R: Threads + Sync, C: Crews>(
     rt: &R,
@@ -169,23 +235,7 @@ pub fn merge_samples<R: Threads + Sync, C: Crews>(
     ensures runs { IfOk result (λ merged. merged.content.runs ≡ merge.now.runs.now) }
     ensures events { IfOk result (λ merged. merged.content.events ≡ merge.now.events.now) }
 {
-    call_paths_have_roots();
-    plans_can_be_merged();
-    stripes_hold_the_samples();
-    stripes_hold_their_pieces();
-    let expander = Expander::of(alloc, finder);
-    let plan = plan_of(alloc, ccts, &expander)?;
-    let crew = merge
-        .crews
-        .merge(rt, alloc, &plan, &expander, merge.workers)?;
-    let content = content_named(
-        rt,
-        alloc,
-        merge.events,
-        merge.runs,
-        plan.columns(),
-        &expander,
-        &crew.stripes,
-    )?;
+    let (crew, columns) = crew_of(rt, alloc, merge, finder, ccts)?;
+    let content = content_of_crew(rt, alloc, merge, finder, &crew, columns)?;
     Ok(Merged { content, crew })
 }

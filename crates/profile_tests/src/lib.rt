@@ -26,6 +26,8 @@ mod edges;
 #[cfg(test)]
 mod events;
 #[cfg(test)]
+mod failing_calls;
+#[cfg(test)]
 mod failures;
 #[cfg(test)]
 mod live;

@@ -1,5 +1,6 @@
 -- The samples that are to come, while the machine goes on.
-use Rattle.std.proofs.Common.{◌≡◌, inl, ℕ, suc, ◌+◌, ◌%◌, ◌≤◌, ◌<◌, List, [], ◌∷◌, ◌++◌, length, length-append, map, Option, Some, None, Result, Ok, Err, IsErr, IsErrAnd, refl, sym, ap, ap₂, subst, ◌∙◌, arith}
+use Rattle.std.proofs.Common.{◌≡◌, ◌≢◌, inl, ℕ, suc, ◌+◌, ◌%◌, ◌≤◌, ◌<◌, List, [], ◌∷◌, ◌++◌, length, length-append, map, Option, Some, None, Result, Ok, Err, IsErr, IsErrAnd, refl, sym, ap, ap₂, subst, ◌∙◌, arith}
+use Rattle.std.specs.Prelude.{option_to_list}
 use Rattle.std.specs.List.{AllByRecursion}
 use Rattle.prof_bytes.specs.declared.fail.Fail.{Fail}
 use Rattle.prof_bytes.specs.declared.fail.Fail.TheVariants as fails
@@ -15,8 +16,8 @@ use Rattle.sample_clock.specs.declared.clock.Sample.{Sample}
 use Rattle.sample_clock.specs.declared.coming.Coming.{Coming}
 use Rattle.sample_clock.specs.declared.clock.TooManySamples.{TooManySamples}
 use Rattle.sample_clock.specs.Samples.{Earlier, Paths, count_of, placed, sample_of, samples_after, samples_at}
-use Rattle.sample_clock.specs.Clock.{AnswersNext, IsOver, MeetsSample, Met, NoneLost, Reaches, Sampling, Unsampled, earlier_of, samples_now, samples_to_come}
-use Rattle.sample_clock.specs.private.Advance.{Advances, Ended, IsComing, IsMet, IsSampledNext, NoneMet, OneSampled, Passes, Quiet, SamplesNext, with_one_met}
+use Rattle.sample_clock.specs.Clock.{AnswersNext, AreTooMany, IsOver, MeetsSample, Met, NoneLost, Reaches, Sampling, Unsampled, earlier_of, samples_now, samples_to_come}
+use Rattle.sample_clock.specs.private.Advance.{Advances, Ended, IsComing, IsMet, IsSampledNext, NoneMet, OneSampled, Passes, Quiet, SamplesNext, with_one_met, with_pending}
 use Rattle.sample_clock.proofs.Following.{Same, count-append, mod-plus, places-same, samples-passed}
 
 -- ---- counts that go on
@@ -185,6 +186,17 @@ module _ (path_of : Paths) where
       let same : length (samples_to_come path_of new) ≡ length (samples_to_come path_of c) = ap (λ (s : Sampling). length (samples_to_come path_of s)) now in
       record { full = omega (arith, one, met, is); over = is; all = omega (arith, one, met, long, same) }
   answer-met sample (Err (fails.Memory memory)) a c new come met is now = absurd is
+
+  -- the sample that is pending
+  pub pending-given : (given : Option Sample) (old new : Sampling) → old.pending ≡ option_to_list given → old.pending ≢ [] → new ≡ with_one_met (with_pending [] old) → new.met ≤ most_samples → AnswersNext path_of (Ok given) old new
+  pending-given None old new is some now few = absurd (some is)
+  pending-given (Some sample) old new is some now few =
+      answer-met sample (Ok (Some sample)) old (with_pending [] old) new (ap (λ (pending : List Sample). pending ++ samples_now path_of old (to_come old.machine).instants) is) refl (refl, few) now
+
+  pub pending-over : (given : Option Sample) (fault : TooManySamples) (old new : Sampling) → old.pending ≡ option_to_list given → old.pending ≢ [] → new ≡ with_one_met (with_pending [] old) → new.met ≡ most_samples + 1 → AreTooMany path_of old new
+  pending-over None fault old new is some now over = absurd (some is)
+  pending-over (Some sample) fault old new is some now over =
+      answer-met sample (Err (fails.Fault fault)) old (with_pending [] old) new (ap (λ (pending : List Sample). pending ++ samples_now path_of old (to_come old.machine).instants) is) refl over now
 
   pub reach-met : (sample : Sample) (answer : Result (Option Sample) (Fail TooManySamples)) (a new : Sampling) → MeetsSample path_of a new → IsMet sample answer new → Reaches path_of answer a new
   reach-met sample (Ok (Some given)) a new meets is = meets

@@ -174,8 +174,8 @@ impl<'a> Samples<'a> {
         requires { self.old.pending ≡ [] }
         ensures { self.new ≡ with_pending (option_to_list second) self.old }
     {
-        if second.is_some() {
-            self.pending = second;
+        if let Some(sample) = second {
+            self.pending = Some(sample);
         }
     }
 
@@ -281,17 +281,20 @@ impl<'a> Samples<'a> {
         self.met <= MOST_SAMPLES
     }
 
-    /// Counts a sample, and gives it unless it is one too many.
+    /// Counts the second sample of the last instruction, and gives it unless it is one too many.
     #[inline(always)]
-    fn give(&mut self, sample: Sample) -> Result<Option<Sample>, Fail<TooManySamples>>
-        requires { self.old.met ≤ most_samples }
-        ensures met { IsMet sample result self.new }
-        ensures new { self.new ≡ with_one_met self.old }
+    fn give_pending(&mut self) -> Result<Option<Sample>, Fail<TooManySamples>>
+        requires some { self.old.pending ≢ [] }
+        requires few { self.old.met ≤ most_samples }
+        ensures answer { (path_of : Paths) → AnswersNext path_of result self.old self.new }
+        ensures reached { (path_of : Paths) → Reaches path_of result self.old self.new }
+        ensures machine { self.new.machine ≡ self.old.machine }
     {
+        let sample = self.pending.take();
         if !self.count_met() {
             return Err(Fail::Fault(TooManySamples));
         }
-        Ok(Some(sample))
+        Ok(sample)
     }
 
     /// Counts the first sample of an instruction, and gives it unless it is one too many.
@@ -375,8 +378,8 @@ impl<'a> Samples<'a> {
         if self.met > MOST_SAMPLES {
             return Err(Fail::Fault(TooManySamples));
         }
-        if let Some(sample) = self.pending.take() {
-            return self.give(sample);
+        if self.pending.is_some() {
+            return self.give_pending();
         }
         if self.is_alone {
             self.next_alone(unwinder)

@@ -18,6 +18,7 @@ use Rattle.tree_types.specs.Database.{node_list}
 use Rattle.tree_types.specs.Nodes.{nodes as nodes_of, no_parent}
 use Rattle.tree_types.specs.OfContent.{content_of_event, content_table}
 use Rattle.tree_types.specs.Tree.{CountedTree, paths_in}
+use Rattle.merge_crew.specs.declared.merge.Crew.{Crew}
 use Rattle.merge_crew.specs.Merged.{IsOfPlan, IsWhole}
 use Rattle.hpc_top.specs.declared.merged.Merged.{Merged}
 use Rattle.command_line.specs.declared.status.InputFault.{InputFault}
@@ -52,15 +53,25 @@ abbrev pub HasTables : EventContent → Attributed → List ColumnPath → Type 
 HasTables c a paths = (place : ℕ) (event : EventPeriod) → slice_get a.events place ≡ Some event
     → content_table (content_of_event c place) ≡ table_of_event a paths (place, event)
 
--- what is merged of samples: the crew is one that may come, its stripes are those of the samples' plan, and the content
--- is that of the pieces that they name. Where crews merge all, these are the call paths of all samples
+-- what a crew merges of samples: the crew is one that may come, and its stripes are those of the samples' plan. Where
+-- crews merge all, the pieces that the stripes name are the call paths of all samples
+pub record IsCrewOf (by : Merging) (a : Attributed) (crew : Crew) : Type 0 where
+  pub gives : by.gives crew
+  pub plan : IsOfPlan (sample_plan a) crew
+  pub whole : IsTrue by.whole → IsWhole (sample_plan a) by.workers crew
+  pub paths : IsTrue by.whole → Alike (named_paths crew.stripes) (call_paths_of a)
+
+-- what a crew merges of samples that are attributed, or their refusal, unless memory ran out. The number of their
+-- columns comes with the crew, and has a clause of its own
+abbrev pub CrewMerges : Merging → Result (Crew × ℕ) (Fail InputFault) → Result Attributed InputFault → Type 0
+CrewMerges by (Ok merged) wanted = (a : Attributed) × (wanted ≡ Ok a) × IsCrewOf by a merged.0
+CrewMerges by (Err fail) wanted = FailsBy fail wanted
+
+-- what is merged of samples: what the crew merges of them, and the content of the pieces that its stripes name
 pub record IsMergeOf (by : Merging) (a : Attributed) (m : Merged) : Type 0 where
-  pub gives : by.gives m.crew
-  pub plan : IsOfPlan (sample_plan a) m.crew
+  pub by_crew : IsCrewOf by a m.crew
   pub content : m.content ≡ event_content a (named_paths m.crew.stripes)
   pub tables : HasTables m.content a (named_paths m.crew.stripes)
-  pub crew : IsTrue by.whole → IsWhole (sample_plan a) by.workers m.crew
-  pub paths : IsTrue by.whole → Alike (named_paths m.crew.stripes) (call_paths_of a)
 
 -- what is merged of samples that are attributed, or their refusal, unless memory ran out
 abbrev pub Merges : Merging → Result Merged (Fail InputFault) → Result Attributed InputFault → Type 0

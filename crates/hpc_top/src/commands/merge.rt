@@ -55,7 +55,7 @@ fn merge_same<R: Threads + Sync, C: Crews>(
         events: events.as_slice(),
         runs: harts.as_slice(),
     };
-    attribute_code(rt, alloc, &merge, image, &ccts)
+    attribute_code(rt, alloc, &merge, image, ccts)
 }
 
 /// What is made of runs by a program, or the first of their refusals.

@@ -61,15 +61,15 @@ fn attribute_measured<R: Threads + Sync, C: Crews>(
     alloc: Global,
     image: &Image<'_>,
     head: &EventHead,
-    ccts: &Ccts,
+    ccts: Ccts,
     workers: u32,
     crews: &C,
 ) -> Result<Product, Fail<InputFault>>
-    requires measured { IsEventMeasurable head.now ccts.now }
+    requires measured { IsEventMeasurable head.now ccts }
     requires workers { AreWorkers workers }
     requires whole { IsTrue (C.whole crews.now) }
     ensures { Gives (λ p. p) result
-        (attributed_code image.now head.now.events (head.now.harts ∷ []) ccts.now) }
+        (attributed_code image.now head.now.events (head.now.harts ∷ []) ccts) }
 {
     let runs = [head.harts];
     let merge = Merge {
@@ -99,7 +99,7 @@ fn attribute<R: Threads + Sync, C: Crews>(
     let (head, ccts) = measured(alloc, measurement)?;
     let image = program_of(alloc, elf)?;
     check_program(&image, &head)?;
-    attribute_measured(rt, alloc, &image, &head, &ccts, workers, crews)
+    attribute_measured(rt, alloc, &image, &head, ccts, workers, crews)
 }
 
 /// What `prof` makes of its files.

@@ -7,6 +7,6 @@ use Rattle.hpc_top.proofs.attribution.attribute_scopes.Goals as goal
 
 pub returns : goal.returns
 returns g c =
-    subst (λ (p : ProgramScopes). Gives (λ p. p) c.attribute_counted.result (attributed p c.args.merge.now.events.now c.args.merge.now.runs.now (each_sample c.args.ccts.now) >>= λ a. Ok (attribution_of a))) c.in_ok-finder.ensures
-    (c.attribute_counted.ensures (each_sample c.args.ccts.now) (sym (c.measurements_count_samples.ensures.distinct c.args.ccts.now c.requires.measured)) (c.measurements_count_samples.ensures.columns c.args.ccts.now)
-    (sym (c.measurements_count_samples.ensures.many c.args.ccts.now)))
+    subst (λ (p : ProgramScopes). Gives (λ p. p) c.attribute_counted.result (attributed p c.args.merge.now.events.now c.args.merge.now.runs.now (each_sample c.args.ccts) >>= λ a. Ok (attribution_of a))) c.in_ok-finder.ensures
+    (c.attribute_counted.ensures (each_sample c.args.ccts) (sym (c.measurements_count_samples.ensures.distinct c.args.ccts c.requires.measured)) (c.measurements_count_samples.ensures.columns c.args.ccts)
+    (sym (c.measurements_count_samples.ensures.many c.args.ccts)))

@@ -1,43 +1,11 @@
-use Rattle.std.proofs.Common.{◌≡◌, ◌∙◌, ◌<◌, ℕ, Ok, length, All, sym, ap, subst}
 use Rattle.std.proofs.lemmas.Result.{err_from_is_err_and}
-use Rattle.scope_find.specs.Found.{ProgramScopes, found_at}
-use Rattle.scope_types.specs.Columns.{columns_of}
-use Rattle.scope_types.specs.Distinct.{ColumnRaw, distinct}
-use Rattle.scope_types.specs.Expansion.{call_path}
-use Rattle.stripe_table.specs.Ends.{AllFit, named_paths}
-use Rattle.stripe_table.specs.Limits.{Chunks}
-use Rattle.thread_cct.specs.Plan.{IsMergeable}
-use Rattle.hpc_top.specs.declared.merged.Merged.{Merged}
-use Rattle.hpc_top.specs.Attribution.{attributed}
-use Rattle.hpc_top.specs.Merged.{merging}
-use Rattle.hpc_top.specs.private.Merging.{Merges}
-use Rattle.hpc_top.proofs.Products.{merge_is, plan_columns, refused_of, tables_of}
 use Rattle.hpc_top.proofs.merged.merge_samples.Goals as goal
 
-pub returns-in_err-plan-clause-merged : goal.returns-in_err-plan-clause-merged
-returns-in_err-plan-clause-merged g c samples are own =
+pub returns-in_err-crew-clause-merged : goal.returns-in_err-crew-clause-merged
+returns-in_err-crew-clause-merged g c samples are own =
     let p = err_from_is_err_and c.from_residual.result c.from_residual.ensures.1 in
-    rw (p.1, p.2) (refused_of c.args.merge.now.events.now c.args.merge.now.runs.now c.args.ccts.now samples (are ∙ ap (λ (n : ℕ). distinct n samples) c.requires.columns) c.of-expander.result c.args.finder.now c.of-expander.ensures _ c.in_err-plan.ensures.answer)
-
-pub content_named-requires-clause-columns : goal.content_named-requires-clause-columns
-content_named-requires-clause-columns g c κs within =
-    c.columns.ensures.columns ∙ plan_columns (call_path (found_at c.of-expander.result)) c.args.ccts.now c.in_ok-plan.plan c.in_ok-plan.ensures.answer ∙ c.requires.columns
-
-pub content_named-requires-clause-held : goal.content_named-requires-clause-held
-content_named-requires-clause-held g c κs within =
-    c.stripes_hold_their_pieces.ensures.joinable c.in_ok-crew.crew.stripes c.columns.result
-    (subst (λ (chunks : Chunks). AllFit chunks c.in_ok-crew.crew.stripes.stripes) (sym c.in_ok-crew.ensures.plan.plan) c.in_ok-crew.ensures.plan.fit)
-    (subst (λ (chunks : Chunks). IsMergeable chunks c.columns.result) (sym c.in_ok-crew.ensures.plan.plan)
-    (c.plans_can_be_merged.ensures c.in_ok-plan.plan (call_path (found_at c.of-expander.result)) c.columns.result c.columns.ensures.counted c.columns.ensures.below (c.call_paths_have_roots.ensures (found_at c.of-expander.result))))
+    rw (p.1, p.2) (c.in_err-crew.ensures.merged samples are own)
 
 pub returns-clause-merged : goal.returns-clause-merged
 returns-clause-merged g c samples are own =
-    let program : ProgramScopes = c.of-expander.result in
-    let by = merging (g.C.Crews.gives c.args.merge.now.crews.now) (g.C.Crews.whole c.args.merge.now.crews.now) c.args.merge.now.workers in
-    let m : Merged = record { content = c.in_ok-content.content; crew = c.in_ok-crew.crew } in
-    let columns : length c.args.ccts.now ≡ columns_of (length c.args.merge.now.events.now) c.args.merge.now.runs.now = c.requires.columns in
-    subst (λ (q : ProgramScopes). Merges by (Ok m) (attributed q c.args.merge.now.events.now c.args.merge.now.runs.now samples)) c.of-expander.ensures
-    (merge_is by program c.args.merge.now.events.now c.args.merge.now.runs.now c.args.ccts.now samples (are ∙ ap (λ (n : ℕ). distinct n samples) columns) c.stripes_hold_the_samples.ensures.samples
-    (subst (λ (n : ℕ). All (λ (s : ColumnRaw). s.column < n) samples) columns own) c.in_ok-plan.plan m c.in_ok-plan.ensures.answer c.in_ok-crew.ensures.gives c.in_ok-crew.ensures.plan c.in_ok-crew.ensures.whole
-    c.in_ok-content.ensures.content
-    (tables_of program c.args.merge.now.events.now c.args.merge.now.runs.now samples (named_paths c.in_ok-crew.crew.stripes) c.in_ok-content.content c.in_ok-content.ensures.tables))
+    c.in_ok-content.ensures.merged samples (c.in_ok-crew.ensures.merged samples are own)
