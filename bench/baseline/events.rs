@@ -98,34 +98,75 @@ fn extra(machine: &Machine, number: usize) -> Option<Event> {
     Event::of(op, taken(op, regs[rs1 as usize], regs[rs2 as usize]))
 }
 
-/// Runs the slices, and hands each sample's column and call path on, until one is refused.
+/// A limit of a run.
+pub enum Limit {
+    Samples,
+    Frames,
+}
+
+impl From<Limit> for String {
+    #[cold]
+    fn from(limit: Limit) -> String {
+        match limit {
+            Limit::Samples => format!("more than {MOST_SAMPLES} samples"),
+            Limit::Frames => format!("more than {MOST_FRAMES} frames"),
+        }
+    }
+}
+
+/// What is told each sample's column and call path, until one is past a limit. It is put into the loops that run: an
+/// answer is a byte in a register, and its line is made behind the loop.
+pub trait Sampled {
+    fn sampled(&mut self, column: usize, trail: &Trail) -> Result<(), Limit>;
+}
+
+/// Runs the slices.
 pub fn run(
     machine: &mut Machine,
     unwinder: &mut Unwinder,
     slices: &[(usize, u64)],
     events: &[EventPeriod],
-    sampled: impl FnMut(usize, &Trail) -> Read<()>,
+    samples: &mut impl Sampled,
 ) -> Read<()> {
-    if is_retired_alone(events) {
-        run_retired(machine, unwinder, slices, u64::from(events[0].period), sampled)
+    let ran = if is_retired_alone(events) {
+        run_retired(machine, unwinder, slices, u64::from(events[0].period), samples)
     } else {
-        run_events(machine, unwinder, slices, events, sampled)
+        run_events(machine, unwinder, slices, events, samples)
+    };
+    ran.map_err(String::from)
+}
+
+/// The samples' paths, and how many there were.
+struct Counted {
+    paths: Paths,
+    samples: u64,
+}
+
+impl Sampled for Counted {
+    #[inline(always)]
+    fn sampled(&mut self, column: usize, trail: &Trail) -> Result<(), Limit> {
+        let is_new = self.paths.add(column, trail, 1);
+        self.samples += 1;
+        if self.samples > MOST_SAMPLES {
+            return Err(Limit::Samples);
+        }
+        if is_new && self.paths.words.len() > MOST_FRAMES {
+            return Err(Limit::Frames);
+        }
+        Ok(())
     }
 }
 
-/// The same, and counts the samples' paths.
+/// Runs the slices, and counts the samples' paths.
 pub fn counted(
     machine: &mut Machine,
     unwinder: &mut Unwinder,
     slices: &[(usize, u64)],
     events: &[EventPeriod],
 ) -> Read<Paths> {
-    let (mut paths, mut samples) = (Paths::new(), 0);
-    run(machine, unwinder, slices, events, |column, trail| {
-        samples += 1;
-        add(&mut paths, column, trail, samples)
-    })?;
-    Ok(paths)
+    let mut counted = Counted { paths: Paths::new(), samples: 0 };
+    run(machine, unwinder, slices, events, &mut counted)?;
+    Ok(counted.paths)
 }
 
 /// Where retired is the only event: a sample is taken of the state before each instruction whose number in its hart is
@@ -135,8 +176,8 @@ fn run_retired(
     unwinder: &mut Unwinder,
     slices: &[(usize, u64)],
     period: u64,
-    mut sampled: impl FnMut(usize, &Trail) -> Read<()>,
-) -> Read<()> {
+    samples: &mut impl Sampled,
+) -> Result<(), Limit> {
     let (mut next, mut trail) = (vec![period; machine.harts.len()], Trail::new());
     for (number, count) in slices {
         let mut left = *count;
@@ -152,7 +193,7 @@ fn run_retired(
             left -= retired;
             if retired == 1 {
                 next[*number] += period;
-                sampled(*number, &trail)?;
+                samples.sampled(*number, &trail)?;
             }
         }
     }
@@ -167,8 +208,8 @@ fn run_events(
     unwinder: &mut Unwinder,
     slices: &[(usize, u64)],
     events: &[EventPeriod],
-    mut sampled: impl FnMut(usize, &Trail) -> Read<()>,
-) -> Read<()> {
+    samples: &mut impl Sampled,
+) -> Result<(), Limit> {
     let mut all_dues = vec![Dues::of(events); machine.harts.len()];
     let place = |event| events.iter().position(|it| it.event == event).unwrap_or(0);
     let places = [Event::Retired, Event::Loads, Event::Stores, Event::Taken].map(place);
@@ -193,32 +234,9 @@ fn run_events(
             for event in is_retired.then_some(Event::Retired).into_iter().chain(extra).filter(|_| retired == 1) {
                 let place = places[event as usize];
                 dues.0[event as usize] += u64::from(events[place].period);
-                sampled(*number * events.len() + place, &trail)?;
+                samples.sampled(*number * events.len() + place, &trail)?;
             }
         }
     }
     Ok(())
-}
-
-/// Counts a sample's path in its column.
-#[inline(always)]
-pub fn add(paths: &mut Paths, column: usize, trail: &Trail, samples: u64) -> Read<()> {
-    let is_new = paths.add(column, trail, 1);
-    if samples > MOST_SAMPLES {
-        return too_many_samples();
-    }
-    if is_new && paths.words.len() > MOST_FRAMES {
-        return too_many_frames();
-    }
-    Ok(())
-}
-
-#[cold]
-pub fn too_many_samples() -> Read<()> {
-    Err(format!("more than {MOST_SAMPLES} samples"))
-}
-
-#[cold]
-pub fn too_many_frames() -> Read<()> {
-    Err(format!("more than {MOST_FRAMES} frames"))
 }

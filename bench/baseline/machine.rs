@@ -302,6 +302,7 @@ impl<'a> Machine<'a> {
 
     /// Has a hart retire up to `most` instructions, and returns how many it did; fewer where it ends. Where `COUNTS`
     /// says so it counts their events.
+    #[inline(always)]
     pub fn pass<const COUNTS: bool>(&mut self, number: usize, most: u64) -> u64 {
         let mut left = most;
         while left > 0 && self.harts[number].end.is_none() {
@@ -318,6 +319,7 @@ impl<'a> Machine<'a> {
     }
 
     /// Carries out one instruction of whatever kind; false where it did not retire, and the hart has ended.
+    #[inline(never)]
     fn step(&mut self, number: usize) -> bool {
         let (hart, memory) = (&mut self.harts[number], &mut self.memory);
         let pc = hart.pc;

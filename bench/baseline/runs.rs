@@ -2,7 +2,7 @@
 
 use crate::bytes::Read;
 use crate::elf::Program;
-use crate::events::{MOST_FRAMES, MOST_SAMPLES, too_many_frames, too_many_samples};
+use crate::events::{Limit, MOST_FRAMES, MOST_SAMPLES};
 use crate::measurements::{self, Head, head_of};
 use crate::unwind::Paths;
 
@@ -35,10 +35,10 @@ impl Runs {
             return Err(format!("measurement {place} of other periods"));
         }
         if paths.list.iter().map(|path| u64::from(path.count)).sum::<u64>() > MOST_SAMPLES {
-            return too_many_samples();
+            return Err(Limit::Samples.into());
         }
         if paths.words.len() > MOST_FRAMES {
-            return too_many_frames();
+            return Err(Limit::Frames.into());
         }
         Ok(())
     }

@@ -4,7 +4,7 @@ use std::collections::HashMap;
 
 use crate::bytes::{Read, put_words};
 use crate::elf::Program;
-use crate::events::{MOST_FRAMES, MOST_SAMPLES, retired, run, too_many_frames, too_many_samples};
+use crate::events::{Limit, MOST_FRAMES, MOST_SAMPLES, Sampled, retired, run};
 use crate::machine::Machine;
 use crate::measurements::{Fields, Whole, head_of, is_of};
 use crate::schedule::MOST_HARTS;
@@ -19,39 +19,41 @@ const LETTERS: &[u8; 62] = b"ABCDEFGHIJKLMNOPQRSTUVWXYZabcdefghijklmnopqrstuvwxy
 /// for each of its samples the place of its path among the hart's.
 pub struct Traced {
     paths: Paths,
+    /// For each path its place among its hart's.
+    places: Vec<u32>,
     own: Vec<Vec<u32>>,
     samples: Vec<Vec<u32>>,
+    /// How many samples all harts have.
+    count: u64,
+}
+
+impl Sampled for Traced {
+    #[inline(always)]
+    fn sampled(&mut self, hart: usize, trail: &Trail) -> Result<(), Limit> {
+        let path = self.paths.place(hart, trail);
+        self.count += 1;
+        if self.count > MOST_SAMPLES {
+            return Err(Limit::Samples);
+        }
+        if path == self.places.len() {
+            self.places.push(self.own[hart].len() as u32);
+            self.own[hart].push(path as u32);
+            if self.paths.words.len() > MOST_FRAMES {
+                return Err(Limit::Frames);
+            }
+        }
+        self.samples[hart].push(self.places[path]);
+        Ok(())
+    }
 }
 
 impl Traced {
     /// Runs the slices, and keeps each sample of retired.
     pub fn of(machine: &mut Machine, unwinder: &mut Unwinder, slices: &[(usize, u64)], period: u32) -> Read<Traced> {
         let none = vec![Vec::new(); machine.harts.len()];
-        let mut traced = Traced { paths: Paths::new(), own: none.clone(), samples: none };
-        let (mut count, mut places) = (0, Vec::new());
-        run(machine, unwinder, slices, &[retired(period)], |hart, trail| {
-            count += 1;
-            traced.add(hart, trail, count, &mut places)
-        })?;
+        let mut traced = Traced { paths: Paths::new(), places: Vec::new(), own: none.clone(), samples: none, count: 0 };
+        run(machine, unwinder, slices, &[retired(period)], &mut traced)?;
         Ok(traced)
-    }
-
-    /// `places` has for each path its place among its hart's.
-    #[inline(always)]
-    fn add(&mut self, hart: usize, trail: &Trail, samples: u64, places: &mut Vec<u32>) -> Read<()> {
-        let path = self.paths.place(hart, trail);
-        if samples > MOST_SAMPLES {
-            return too_many_samples();
-        }
-        if path == places.len() {
-            places.push(self.own[hart].len() as u32);
-            self.own[hart].push(path as u32);
-            if self.paths.words.len() > MOST_FRAMES {
-                return too_many_frames();
-            }
-        }
-        self.samples[hart].push(places[path]);
-        Ok(())
     }
 
     /// How many samples each hart has.

@@ -7,6 +7,8 @@ use crate::memory::Memory;
 pub const MOST_FRAMES: usize = 512;
 /// Places of the cache from an address to its step, a power of 2.
 const CACHED: usize = 1 << 12;
+/// Frames that are compared one by one.
+const FEW: usize = 4;
 
 /// Finds callers. A step is looked up by binary search, and kept by its address.
 pub struct Unwinder {
@@ -182,6 +184,15 @@ pub struct Paths {
     slots: Vec<u64>,
 }
 
+/// Whether two paths have the same frames. Few are compared one by one, which is shorter than a call.
+#[inline(always)]
+fn is_equal(one: &[u32], other: &[u32]) -> bool {
+    if one.len() > FEW {
+        return one == other;
+    }
+    one.len() == other.len() && one.iter().zip(other).all(|(one, other)| one == other)
+}
+
 impl Paths {
     pub fn new() -> Paths {
         Paths { list: Vec::new(), words: Vec::new(), slots: vec![0; 1 << 10] }
@@ -190,18 +201,32 @@ impl Paths {
     /// Counts so many samples of a path; answers whether it is new.
     #[inline(always)]
     pub fn add(&mut self, column: usize, trail: &Trail, count: u32) -> bool {
-        let known = self.list.len();
-        self.found(column, trail, count) == known
+        let found = self.found(column, trail);
+        match found {
+            Ok(place) => self.list[place].count += count,
+            Err((hash, slot)) => self.insert(column, trail, count, hash, slot),
+        }
+        found.is_err()
     }
 
     /// Counts a sample of a path; answers its place in the list.
     #[inline(always)]
     pub fn place(&mut self, column: usize, trail: &Trail) -> usize {
-        self.found(column, trail, 1)
+        match self.found(column, trail) {
+            Ok(place) => {
+                self.list[place].count += 1;
+                place
+            }
+            Err((hash, slot)) => {
+                self.insert(column, trail, 1, hash, slot);
+                self.list.len() - 1
+            }
+        }
     }
 
+    /// A path's place in the list; or of a new one the hash, and the slot where it is put.
     #[inline(always)]
-    fn found(&mut self, column: usize, trail: &Trail, count: u32) -> usize {
+    fn found(&self, column: usize, trail: &Trail) -> Result<usize, (u32, usize)> {
         let frames = &trail.frames[..trail.count];
         let hash = ((trail.hash ^ (column as u64) << 8 ^ trail.end as u64).wrapping_mul(FACTOR) >> 32) as u32;
         let mask = self.slots.len() - 1;
@@ -209,17 +234,16 @@ impl Paths {
         while self.slots[slot] != 0 {
             let entry = self.slots[slot];
             if (entry >> 32) as u32 == hash {
-                let path = &mut self.list[entry as u32 as usize - 1];
+                let place = entry as u32 as usize - 1;
+                let path = &self.list[place];
                 let is_same = path.column as usize == column && path.end == trail.end;
-                if is_same && self.words[path.first as usize..][..path.frames as usize] == *frames {
-                    path.count += count;
-                    return entry as u32 as usize - 1;
+                if is_same && is_equal(&self.words[path.first as usize..][..path.frames as usize], frames) {
+                    return Ok(place);
                 }
             }
             slot = (slot + 1) & mask;
         }
-        self.insert(column, trail, count, hash, slot);
-        self.list.len() - 1
+        Err((hash, slot))
     }
 
     #[cold]

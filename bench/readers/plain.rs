@@ -2,11 +2,11 @@
 //! `plain measurement FILE [OUT]` and `plain database FILE`. With OUT the measurement is written again, and its bytes are
 //! stored there. `plain stats FILE KIND` puts the table of `hpc stats`, KIND as it takes it, of a database whose procedures
 //! have no names and whose lines are addresses. A broken rule is a panic.
-#[path = "../trees/prof.rs"]
+#[path = "../trees/prof/main.rs"]
 #[allow(dead_code)]
 mod prof;
 
-use prof::{End, Line, Map, NO_PARENT, Node, Plane, Proc, Scope, Tree};
+use prof::{End, Event, Line, Map, NO_PARENT, Node, Plane, Proc, Scope, Tree};
 use std::io::Write;
 
 const MOST_SAMPLES: u64 = 1_048_576;
@@ -201,11 +201,11 @@ fn read_counts(cursor: &mut Cursor<'_>, nodes: &[Node], harts: u32, period: u64)
                 assert!(matches!(nodes[node as usize].scope, Scope::Stmt(_)) && value % period == 0);
                 samples += value / period;
                 assert!(samples <= MOST_SAMPLES);
-                counts.push(End { node, hart, count: (value / period) as u32 });
+                counts.push(End { node, column: hart, count: (value / period) as u32 });
             }
         }
     }
-    counts.sort_unstable_by_key(|end| (end.node, end.hart));
+    counts.sort_unstable_by_key(|end| (end.node, end.column));
     counts
 }
 
@@ -230,9 +230,9 @@ fn read_database(bytes: &[u8]) -> (Tree, Plane) {
     let planes = cursor.at;
     let counts = read_counts(&mut cursor, &nodes, harts, period.into());
     let tree = Tree { nodes, counts };
-    let values = prof::sums(&tree, harts as usize, period);
+    let values = prof::sums(&tree, harts as usize, &[Event { number: 0, period }]);
     let mut wanted = Vec::with_capacity(bytes.len() - planes);
-    prof::put_entries(&mut wanted, &prof::by_hart(&values, harts as usize));
+    prof::put_entries(&mut wanted, &prof::by_column(&values, harts as usize));
     let mut sampled = vec![false; tree.nodes.len()];
     tree.counts.iter().for_each(|end| sampled[end.node as usize] = true);
     assert!(tree.nodes.iter().zip(&sampled).all(|(node, is)| *is || !matches!(node.scope, Scope::Stmt(_))));

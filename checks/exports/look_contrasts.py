@@ -121,6 +121,21 @@ return !!document.querySelector(".note");
 """
 
 
+# The heads that a table cuts off at its right, whichever column it is sorted by.
+CUT = """
+const {right} = document.getElementById("grid").getBoundingClientRect(), cut = [];
+for (const kind of Object.keys(TABLES)) {
+  view.setTable(kind);
+  for (const column of view.grid.columns) {
+    view.grid.sortBy(column, true);
+    for (const head of document.querySelectorAll("#head button"))
+      if (head.getBoundingClientRect().right > right + 1) cut.push([kind, column, head.textContent]);
+  }
+}
+return cut;
+"""
+
+
 def look_at_contrasts(window, name, page, rules):
     """`rules` gathers the rules with colours, and whether some text had each."""
     for scheme in (browser.LIGHT, browser.DARK):
@@ -138,6 +153,8 @@ def look_at_contrasts(window, name, page, rules):
                     rules[scheme, selector] = rules.get((scheme, selector), False) or selector in had
             wide = window.run("return document.documentElement.scrollWidth - innerWidth;")
             same(f"{name}: wider than the screen, {size}", wide > 0, False)
+            if scheme == browser.LIGHT:
+                same(f"{name}: heads that are cut off, {size}", window.run(CUT), [])
 
 
 def look_at_rules(rules):

@@ -3,6 +3,7 @@ import sys
 
 import databases
 from exporter import TOP, complain, export, exported, same
+from look_numpy import look_at_numpy
 
 # The database of examples/straight has its head at 0, its procedure at 28, its nodes from 59 on (node 2 at 83, then
 # each 16 bytes), its profile plane at 147, its context plane at 391. What a change breaks follows from docs/FORMATS.md.
@@ -52,6 +53,7 @@ def look_at_malformed(folder):
     same("a refusal's output file", kept.read_text(), "kept")
     look_at_processes(good, rows)
     look_at_changes(good)
+    look_at_numpy(rows)
 
 
 def look_at_processes(good, rows):

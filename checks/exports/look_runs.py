@@ -2,6 +2,7 @@
 beside plain counts; and two databases compared."""
 import json
 
+import browser
 import databases
 from exporter import TOP, export, exported, same
 from look_controls import LATER, tables_are
@@ -221,9 +222,29 @@ def look_at_compared_page(window, name, page, after, before):
       view.grid.sortBy("change", true);
       return view.grid.rows.map(row => valueOf(row, "change"));""")
     same(f"{name}: the rows by change", found, sorted(found, reverse=True))
+    look_at_narrow_comparison(window, name, page)
     totals = [sum(count for _, count, _ in side[0]) * side[1] for side in (after, before)]
     facts = window.run("return document.getElementById('facts').textContent;")
     same(f"{name}: the facts", f"{totals[1]:,}, change {totals[0] - totals[1]:+,}".replace("+0", "0") in facts, True)
+
+
+NARROW = """
+view.grid.sortBy("change", true);
+const isSeen = element => element.getClientRects().length > 0, by = id => document.getElementById(id);
+const changes = view.grid.rows.map(row => valueOf(row, "change")).filter(value => Math.abs(value) < 1000);
+const cells = [...document.querySelectorAll("#rows [role=row]")].map(row => row.children[4].textContent);
+return {heads: [...document.querySelectorAll("#head > div")].filter(isSeen).map(head => head.textContent),
+  buttons: ["graph-kind", "focus-file", "hide-file", "focus-procedure"].filter(id => isSeen(by(id))),
+  missed: changes.map(signed).filter(text => !cells.includes(text) && cells.length === view.grid.rows.length)};
+"""
+
+
+def look_at_narrow_comparison(window, name, page):
+    """At the width of a phone the change stays, and what was before goes."""
+    window.open(page, browser.PHONE)
+    wanted = {"heads": ["Scope", "Inclusive", "%", "Change ▾"], "buttons": ["focus-procedure"], "missed": []}
+    same(f"{name}: on a phone", window.run(NARROW), wanted)
+    window.open(page)
 
 
 # ---- malformed ones

@@ -8,8 +8,9 @@ also where the path has the call several times (recursion). `calls=` counts samp
 each cost has a number for each.
 """
 import operator
-from itertools import compress
+from itertools import chain, compress
 
+from . import by_numpy, calls_by_numpy
 from .columns import picked
 from .contexts import ROOT_NAMES, Labels, encoded, ends
 from .database import CALL, INLINE, PROC, ROOT, STMT
@@ -20,7 +21,7 @@ NAMES = ("Instructions", "Loads", "Stores", "TakenBranches")
 
 
 def write(out, database, options):
-    profile = _Profile(database, options.every)
+    profile = (_ProfileByNumpy if by_numpy.is_here(len(database.nodes)) else _Profile)(database, options.every)
     has_address, has_row = profile.positions()
     columns = " ".join(name for name, has in (("instr", has_address), ("line", has_row or not has_address)) if has)
     events = [shown.event(database) for shown in options.every]
@@ -53,12 +54,61 @@ _IS_OPEN = _marks(ROOT, PROC, INLINE, CALL)
 _INLINED = 1 << 33
 
 
-class _Profile:
+class _Functions:
     """The costs by function. A function is a procedure's place in the list, or -1 - kind for a root. A block of a
     function is a file's place, and _INLINED more for what is inlined."""
 
     def __init__(self, database, every):
         self.nodes, self.labels = database.nodes, Labels(database)
+        self.periods = [shown.event(database).period for shown in every]
+
+    def name(self, function):
+        return ROOT_NAMES[-1 - function] if function < 0 else self.labels.procedures[function]
+
+
+class _ProfileByNumpy(_Functions):
+    """The same of a large database. Rows lie one after another, and each block has a part of them."""
+
+    def __init__(self, database, every):
+        super().__init__(database, every)
+        columns = calls_by_numpy.Columns(database, every)
+        self.functions, self.files = columns.functions(), columns.files_of_functions()
+        self.files_of_places = columns.files_of_places()
+        self.total = _Cost.of([int(own.sum()) for own in columns.own])
+        self.blocks = {function: {} for function in self.functions}
+        (functions, blocks, lines), costs = columns.costs()
+        rows = list(chain.from_iterable(zip(lines.tolist(), self._texts(costs))))
+        for function, block, start, end in calls_by_numpy.slices(functions, blocks):
+            self._block(function, block, columns.files)[0] = rows[2 * start : 2 * end]
+        (functions, blocks, lines, called), costs = columns.calls()
+        samples = sum(each // period for each, period in zip(costs, self.periods)).tolist()
+        rows = list(zip(lines.tolist(), called.tolist(), samples, self._texts(costs)))
+        for function, block, start, end in calls_by_numpy.slices(functions, blocks):
+            self._block(function, block, columns.files)[1] = rows[start:end]
+
+    def _block(self, function, number, files):
+        """The rows of a function's block with this number."""
+        is_inlined, file = divmod(number, files + 1)
+        return self.blocks[function].setdefault(file - 1 + is_inlined * _INLINED, [(), ()])
+
+    @staticmethod
+    def _texts(costs):
+        return costs[0].tolist() if len(costs) == 1 else map(_Cost, zip(*(each.tolist() for each in costs)))
+
+    def positions(self):
+        """Whether places are addresses, and whether they are rows of line tables."""
+        return -1 in self.files_of_places, bool(self.files_of_places - {-1})
+
+    def blocks_of(self, function):
+        """By its blocks: lines and costs in turn, ascending; and calls: line, what is called, samples, cost."""
+        return self.blocks[function]
+
+
+class _Profile(_Functions):
+    """The costs of a database, gathered plainly."""
+
+    def __init__(self, database, every):
+        super().__init__(database, every)
         # The scope above each node, where there is one.
         self.above = bytes(picked(self.nodes.scope, self.nodes.parent))
         self.function_of = self._functions()
@@ -70,14 +120,10 @@ class _Profile:
             has_cost = map(operator.and_, self.nodes.scope.translate(_IS_PROC), map(bool, all_))
             self.functions |= {*compress(self.nodes.operand, has_cost)}
         own_costs = [shown.exclusive(database) for shown in every]
-        self.periods = [shown.event(database).period for shown in every]
         self.total = _Cost.of([sum(own) for own in own_costs])
         # Function, block, line: cost. Function, block, line, called function: cost. A cost is a number, or a _Cost.
         self.costs = self._joined([self._gathered(self._costs(own)) for own in own_costs])
         self.calls = self._joined([self._gathered(self._calls(all_)) for all_ in all_costs])
-
-    def samples(self, cost):
-        return cost // self.periods[0] if len(self.periods) == 1 else sum(map(operator.floordiv, cost, self.periods))
 
     def _functions(self):
         """For each node but a statement the function that it lies in."""
@@ -97,23 +143,40 @@ class _Profile:
         own = zip(reversed(functions), reversed(files))
         return {function: file for function, file in own if file >= 0}
 
-    def name(self, function):
-        return ROOT_NAMES[-1 - function] if function < 0 else self.labels.procedures[function]
-
     def positions(self):
         """Whether places are addresses, and whether they are rows of line tables."""
         files = set(compress(self.nodes.line_file, self.nodes.scope.translate(_IS_PLACE)))
         return -1 in files, bool(files - {-1})
 
+    def blocks_of(self, function):
+        """By its blocks: lines and costs in turn, ascending; and calls: line, what is called, samples, cost."""
+        costs, calls = self.costs[function], self.calls[function]
+        return {
+            block: (
+                list(chain.from_iterable(sorted(costs.get(block, {}).items()))),
+                [(*place, self._samples(cost), cost) for place, cost in sorted(calls.get(block, {}).items())],
+            )
+            for block in costs.keys() | calls.keys()
+        }
+
+    def _samples(self, cost):
+        return cost // self.periods[0] if len(self.periods) == 1 else sum(map(operator.floordiv, cost, self.periods))
+
     def _gathered(self, rows):
         """The costs of rows by their function, block and place, added up."""
         found = {function: {} for function in self.functions}
+        before = above = places = None
         for function, block, place, cost in rows:
-            places = found[function].get(block)
+            # Many rows of one function follow one another.
+            if function != before:
+                before, above = function, found[function]
+            places = above.get(block)
             if places is None:
-                found[function][block] = {place: cost}
+                above[block] = {place: cost}
+            elif place in places:
+                places[place] += cost
             else:
-                places[place] = places.get(place, 0) + cost
+                places[place] = cost
         return found
 
     def _blocks(self, files, above):
@@ -175,7 +238,12 @@ class _Writer:
         # Files by their numbers, from 1; they are told from names that are alike by their text alone.
         self.files = {file: f"({file + 2}) {name}" for file, name in enumerate(profile.labels.files)}
         self.files[-1] = f"(1) {UNKNOWN}"
+        # Where each function begins: its file, and the position of a call to it.
+        files = {function: profile.files.get(function, -1) for function in profile.functions}
+        self.starts = {function: (file, self.position(file, min(file, 0))) for function, file in files.items()}
         self.called = {function: f"({function + 3}) {profile.name(function)}" for function in profile.functions}
+        # How calls to a function begin that was called before.
+        self.known = {}
 
     def file(self, file):
         text, self.files[file] = self.files[file], f"({file + 2})"
@@ -191,29 +259,31 @@ class _Writer:
 
     def function(self, function):
         """The lines of a function: its own block, and then the others."""
-        own_file = self.profile.files.get(function, -1)
-        costs, calls = self.profile.costs[function], self.profile.calls[function]
+        own_file, blocks = self.profile.files.get(function, -1), self.profile.blocks_of(function)
         lines = [f"\nfl={self.file(own_file)}\nfn={self.name(function)}\n"]
-        self.block(lines, own_file, costs.get(own_file, {}), calls.get(own_file, {}))
-        others = sorted((costs.keys() | calls.keys()) - {own_file})
-        for block in others:
+        self.block(lines, own_file, *blocks.pop(own_file, ((), ())))
+        for block in sorted(blocks):
             file = block if block < _INLINED - 1 else block - _INLINED
             lines.append(f"fi={self.file(file)}\n")
-            self.block(lines, file, costs.get(block, {}), calls.get(block, {}))
-        if others:
+            self.block(lines, file, *blocks[block])
+        if blocks:
             lines.append(f"fe={self.file(own_file)}\n")
         return lines
 
     def block(self, lines, file, costs, calls):
-        if file >= 0:
-            before = "0x0 " if self.has_address else ""
-            lines += [f"{before}{line} {costs[line]}\n" for line in sorted(costs)]
-        else:
-            lines += [f"{self.position(file, line)} {costs[line]}\n" for line in sorted(costs)]
-        for line, called in sorted(calls):
-            cost = calls[line, called]
-            called_file = self.profile.files.get(called, -1)
-            if called_file != file:
-                lines.append(f"cfi={self.file(called_file)}\n")
-            samples, start = self.profile.samples(cost), self.position(called_file, -1 if called_file < 0 else 0)
-            lines.append(f"cfn={self.name(called)}\ncalls={samples} {start}\n{self.position(file, line)} {cost}\n")
+        """`costs` has lines and their costs in turn, `calls` lines, what is called there, samples and costs."""
+        before = "0x0 " if self.has_address else ""
+        row = f"{before}%d %s\n" if file >= 0 else f"0x%x{' 0' * self.has_row} %s\n"
+        lines.append(row * (len(costs) // 2) % tuple(costs))
+        for line, called, samples, cost in calls:
+            called_file, cfi, cfn, start = self.known.get(called) or self.call(called, file)
+            place = f"{before}{line}" if file >= 0 else self.position(file, line)
+            lines.append(f"{'' if called_file == file else cfi}{cfn}{samples}{start}{place} {cost}\n")
+
+    def call(self, called, file):
+        """The file of a function that is called in a file, and the parts of its lines; once it is known, by numbers."""
+        called_file, start = self.starts[called]
+        file_name = "" if called_file == file else self.file(called_file)
+        first = called_file, f"cfi={file_name}\n", f"cfn={self.name(called)}\ncalls=", f" {start}\n"
+        self.known[called] = called_file, f"cfi=({called_file + 2})\n", f"cfn=({called + 3})\ncalls=", f" {start}\n"
+        return first

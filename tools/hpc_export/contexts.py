@@ -2,6 +2,7 @@
 from dataclasses import dataclass
 from typing import List
 
+from . import by_numpy
 from .database import CALL, INLINE, PROC, ROOT
 
 ROOT_NAMES = ("<thread root>", "<partial call paths>")
@@ -74,15 +75,21 @@ class Shown:
 
     def exclusive(self, database):
         """Each node's exclusive value."""
-        values = [0] * len(database.nodes)
-        for node, value in self.sampled(database):
-            values[node] += value
+        count, planes = len(database.nodes), [self.plane(database, hart) for hart in self.harts]
+        if by_numpy.is_here(count):
+            return by_numpy.exclusive(planes, count).tolist()
+        values = [0] * count
+        for plane in planes:
+            for node, value in zip(plane.node, plane.value):
+                values[node] += value
         return values
 
     def inclusive(self, database):
         """Each node's inclusive value."""
-        values = self.exclusive(database)
-        values.append(0)
+        count, planes = len(database.nodes), [self.plane(database, hart) for hart in self.harts]
+        if by_numpy.is_here(count):
+            return by_numpy.inclusive(by_numpy.exclusive(planes, count), database.nodes).tolist()
+        values = [*self.exclusive(database), 0]
         for node, parent in zip(range(len(database.nodes) - 1, -1, -1), reversed(database.nodes.parent)):
             values[parent] += values[node]
         values.pop()

@@ -4,7 +4,7 @@ Nothing of the proved program is called. What is numbers is kept in arrays, and 
 interpreter's loops over whole arrays (columns.py).
 """
 from array import array
-from dataclasses import dataclass
+from dataclasses import dataclass, field
 from typing import List
 
 from .columns import numbers
@@ -73,7 +73,8 @@ class Nodes:
     """The nodes in preorder, a column for each field. The parent of a root is -1; a number of 2^31 or more, which no node
     has, is negative too. `operand` is the root's kind, the place of the procedure, or a call's or statement's kind of
     line; `line_file` is the place of the line's file, or -1 where the line is an address or there is none; `line` is
-    the line's number or address, or -1 where there is none. The nodes begin in the file at `offset`."""
+    the line's number or address, or -1 where there is none. The nodes begin in the file at `offset`. `end` has what
+    by_numpy.py found of them."""
 
     parent: array
     scope: bytes
@@ -81,6 +82,7 @@ class Nodes:
     line_file: array
     line: array
     offset: int
+    end: object = field(default=None, compare=False, repr=False)
 
     def __len__(self):
         return len(self.scope)

@@ -3,6 +3,7 @@ import operator
 from array import array
 from itertools import compress, repeat
 
+from . import by_numpy, planes_by_numpy
 from .columns import merged, numbers, picked, picker, signed
 from .database import (
     ADDRESS,
@@ -36,7 +37,7 @@ def read_fields(data, version):
         [_read_name(reader, File) for _ in range(files)],
         _read_nodes(reader, nodes),
         [_read_plane(reader, event.period) for _ in range(sum(runs)) for event in events],
-        Context(reader.at, data[reader.at :]),
+        Context(reader.at, memoryview(data)[reader.at :]),
     )
 
 
@@ -86,6 +87,9 @@ _HAS_NO_FILE = bytes(255 * (scope & 7 < INLINE or scope >> 3 == 4 + (scope & 7 =
 
 
 def _read_nodes(reader, count):
+    if by_numpy.is_here(count):
+        nodes, reader.at = by_numpy.nodes_of(reader.data, reader.at, count) or _refuse_node(reader, count)
+        return nodes
     start = reader.at
     data = reader.data[start : start + LONGEST * count]
     words = numbers("I", data[: len(data) // 4 * 4])
@@ -169,8 +173,11 @@ def _read_plane(reader, period):
     if count > whole:
         rest = (len(reader.data) - reader.at) % 16
         raise Malformed(2, reader.at + 16 * whole + (rest // 4 * 4 if rest < 8 else 8))
-    data = reader.text(16 * count)
-    is_exclusive = data[4::16].translate(_IS_EXCLUSIVE)
+    data = memoryview(reader.data)[reader.at : reader.at + 16 * count]
+    reader.at += 16 * count
+    if by_numpy.is_here(count):
+        return Plane(offset, data, *planes_by_numpy.exclusive_of(data, period))
+    is_exclusive = bytes(data[4::16]).translate(_IS_EXCLUSIVE)
     nodes = array("I", compress(numbers("I", data)[0::4], is_exclusive))
     values = array("Q", compress(numbers("Q", data)[1::2], is_exclusive))
     samples = array("Q", [value // period for value in values] if period else values)

@@ -6,16 +6,29 @@ frames too. Stacks of one text are one line, in the order in which they come fir
 database each line has two costs, that before and that after.
 """
 from dataclasses import replace
+from itertools import compress, islice
 
+from . import by_numpy, stacks_by_numpy
+from .columns import picked
 from .contexts import ROOT_NAMES, Labels, encoded
-from .database import CALL, INLINE, PROC, ROOT
+from .database import CALL, INLINE, PROC, ROOT, STMT
 
 
 def write(out, database, options):
     if options.base:
         _write_compared(out, database, options)
-    else:
-        out.writelines(b"%b %d\n" % line for line in _costs(database, options))
+        return
+    lines = _lines(_costs(database, options))
+    for piece in iter(lambda: b"".join(islice(lines, _MANY)), b""):
+        out.write(piece)
+
+
+# So many lines are written together.
+_MANY = 1 << 14
+
+
+def _lines(costs):
+    return (b"%b %d\n" % line for line in costs)
 
 
 def _write_compared(out, database, options):
@@ -31,23 +44,47 @@ def _write_compared(out, database, options):
 
 def _costs(database, options):
     """The text of each stack and its cost."""
+    planes = [options.shown.plane(database, hart) for hart in options.shown.harts]
     frames = _Frames(database)
-    above, last, stack_of = _stacks(database.nodes, _frames_of(database, options, frames), len(frames.texts))
-    costs = [0] * len(above)
-    for node, value in options.shown.sampled(database):
-        costs[stack_of[node]] += value
+    above, last, costs = _stacks_with_costs(database, options, frames, planes)
     stacks = [stack for stack, cost in enumerate(costs) if cost]
     if options.by_cost:
         stacks.sort(key=costs.__getitem__, reverse=True)
-    texts = _texts(stacks, above, list(map(frames.texts.__getitem__, last)))
-    return zip(texts, map(costs.__getitem__, stacks))
+    return zip(_texts(stacks, above, last, frames.texts), map(costs.__getitem__, stacks))
+
+
+def _stacks_with_costs(database, options, frames, planes):
+    """The distinct stacks, as _stacks has them, and the cost of each."""
+    if by_numpy.is_here(len(database.nodes)):
+        stacks = _stacks_by_numpy(database, options, frames)
+        return stacks.above.tolist(), stacks.last.tolist(), stacks.costs(planes)
+    above, last, stack_of = _stacks(database.nodes, _frames_of(database, options, frames), len(frames.texts))
+    costs = [0] * len(above)
+    for plane in planes:
+        for stack, value in zip(picked(stack_of, plane.node), plane.value):
+            costs[stack] += value
+    return above, last, costs
+
+
+def _stacks_by_numpy(database, options, frames):
+    nodes = database.nodes
+    found = stacks_by_numpy.frames_of(nodes, frames.of_scope)
+    if options.with_places:
+        for node in compress(range(len(nodes)), nodes.scope.translate(_IS_PLACE)):
+            found[node] = frames.of_place(node)
+    if options.min_percent:
+        found = stacks_by_numpy.without(found, options.shown.kept(database, options.min_percent))
+    return stacks_by_numpy.Stacks(nodes, found, len(frames.texts))
 
 
 def paths(database, options):
     """The text of the stack that each node is in."""
     frames = _Frames(database)
+    if by_numpy.is_here(len(database.nodes)):
+        stacks = _stacks_by_numpy(database, options, frames)
+        return _texts(stacks.of.tolist(), stacks.above.tolist(), stacks.last.tolist(), frames.texts)
     above, last, stack_of = _stacks(database.nodes, _frames_of(database, options, frames), len(frames.texts))
-    return _texts(stack_of[:-1], above, list(map(frames.texts.__getitem__, last)))
+    return _texts(stack_of[:-1], above, last, frames.texts)
 
 
 class _Frames:
@@ -76,9 +113,12 @@ class _Frames:
 def _frames_of(database, options, frames):
     """Each node's frame, or -1 where it is none."""
     nodes = database.nodes
-    found = [
-        frames.of_scope[scope][operand] if scope < CALL else -1 for scope, operand in zip(nodes.scope, nodes.operand)
-    ]
+    # Of the operands those of each scope alone are frames.
+    of_scope = [frames.of_scope.get(scope) for scope in range(STMT + 1)]
+    found = [-1] * len(nodes)
+    rows = zip(range(len(nodes)), nodes.scope, nodes.operand)
+    for node, scope, operand in compress(rows, nodes.scope.translate(_IS_FRAME)):
+        found[node] = of_scope[scope][operand]
     if options.with_places:
         for node, scope in enumerate(nodes.scope):
             if scope >= CALL:
@@ -90,36 +130,43 @@ def _frames_of(database, options, frames):
     return found
 
 
+_IS_FRAME = bytes(scope < CALL for scope in range(256))
+_IS_PLACE = bytes(scope in (CALL, STMT) for scope in range(256))
+
+
 def _stacks(nodes, frames, count):
     """The distinct stacks, of so many frames: for each the stack above it (-1 where there is none) and its last frame; and
     for each node the stack down to it. A stack is known by its last frame and the one above it."""
     numbers, above, last = {}, [], []
     stack_of = [-1] * (len(nodes) + 1)
     for node, (parent, frame) in enumerate(zip(nodes.parent, frames)):
-        stack = stack_of[parent]
-        if frame >= 0:
-            found = numbers.setdefault(stack * count + frame, len(above))
-            if found == len(above):
-                above.append(stack)
-                last.append(frame)
-            stack = found
+        if frame < 0:
+            stack_of[node] = stack_of[parent]
+            continue
+        key = stack_of[parent] * count + frame
+        stack = numbers.get(key)
+        if stack is None:
+            stack = numbers[key] = len(above)
+            above.append(key // count)
+            last.append(frame)
         stack_of[node] = stack
     return above, last, stack_of
 
 
-def _texts(stacks, above, frames):
-    """The texts of stacks, one after another. Those of the last stack and of all above it are at hand."""
-    path, texts, depths = [], [], []
+def _texts(stacks, above, last, frames):
+    """The texts of stacks, one after another. Of each depth the last text is at hand, with the stack that has it."""
+    depths = []
     for stack in above:
         depths.append(depths[stack] + 1 if stack >= 0 else 0)
+    at_hand, texts = [-1] * (max(depths, default=0) + 1), [b""] * (max(depths, default=0) + 1)
+    below = [b";" + frame for frame in frames]
     for stack in stacks:
-        below = []
-        while stack >= 0 and not (depths[stack] < len(path) and path[depths[stack]] == stack):
-            below.append(stack)
-            stack = above[stack]
-        kept = depths[stack] + 1 if stack >= 0 else 0
-        del path[kept:], texts[kept:]
-        for stack in reversed(below):
-            texts.append(texts[-1] + b";" + frames[stack] if texts else frames[stack])
-            path.append(stack)
-        yield texts[-1]
+        depth, up, missing = depths[stack], above[stack], [stack]
+        while up >= 0 and at_hand[depth - 1] != up:
+            missing.append(up)
+            depth, up = depth - 1, above[up]
+        for stack in reversed(missing):
+            text = texts[depth - 1] + below[last[stack]] if depth else frames[last[stack]]
+            at_hand[depth], texts[depth] = stack, text
+            depth += 1
+        yield text

@@ -8,7 +8,7 @@ import struct
 from array import array
 from itertools import repeat
 
-from . import many_columns
+from . import by_numpy, many_columns, planes_by_numpy
 from .background import asked
 from .columns import ascend, numbers, packed, picked, whole, widened
 from .database import EXCLUSIVE, FRAME, INCLUSIVE, PROC, STMT, Malformed
@@ -30,6 +30,8 @@ def begin_planes(database):
     is_large = len(database.nodes) >= MANY
     if database.columns > MOST_PACKED:
         questions = [lambda: many_columns.is_profile(database), lambda: many_columns.is_context(database)]
+    elif by_numpy.is_here(len(database.nodes)):
+        questions = [lambda: planes_by_numpy.are_planes(database)]
     else:
         questions = [lambda: _is_profile(database, _sums(database)), lambda: _is_context(database, _sums(database))]
     answers = [asked(question, is_large) for question in questions]
@@ -48,6 +50,8 @@ def begin_planes(database):
 def _are_samples(database):
     """Whether the exclusive values are numbers of samples at statements, and all are few enough for the sums."""
     planes, nodes = database.planes, database.nodes
+    if by_numpy.is_here(len(nodes)):
+        return planes_by_numpy.are_samples(database, MOST_SAMPLES)
     return (
         all(not plane.node or max(plane.node) < len(nodes) for plane in planes)
         and all(0 not in plane.value for plane in planes)
@@ -99,7 +103,7 @@ def _is_plane(database, column, counts, fields):
     """Whether the entries of a column ascend, and are these counts of samples, so many to a node. Exclusive ones are
     known to be at statements, where they are the frame's."""
     plane = database.planes[column]
-    words, kinds = numbers("I", plane.data), plane.data[4::16]
+    words, kinds = numbers("I", plane.data), bytes(plane.data[4::16])
     if packed(words[1::4]) != widened(kinds) or not set(kinds) <= {EXCLUSIVE, FRAME, INCLUSIVE}:
         return False
     nodes, values = words[0::4], numbers("Q", plane.data)[1::2]

@@ -15,6 +15,7 @@ they hold; where one doesn't, a second and plain reading finds the first place t
 from array import array
 from itertools import compress, islice
 
+from . import by_numpy
 from .columns import merged, numbers, packed, picked, spread, whole, widened
 from .database import CALL, EVENTS, INLINE, NAMELESS, PROC, ROOT, STMT, Malformed
 from .fields import need_context, read_fields
@@ -108,6 +109,8 @@ def _are_nodes(database):
     nodes = database.nodes
     if not nodes:
         return True
+    if by_numpy.is_here(len(nodes)):
+        return by_numpy.are_nodes(database, UNDER)
     roots = max(compress(nodes.operand, nodes.scope.translate(_IS_ROOT)), default=0)
     called = max(compress(nodes.operand, nodes.scope.translate(_IS_CALLED)), default=-1)
     return (
@@ -115,7 +118,7 @@ def _are_nodes(database):
         and called < len(database.procedures)
         and max(nodes.line_file) < len(database.files)
         and _first_children_follow(nodes)
-        and _siblings_ascend(nodes, _keys(database))
+        and _are_siblings(nodes, _keys(database))
         and _stand_under(nodes)
     )
 
@@ -145,7 +148,7 @@ def _keys(database):
 _IS_ONES = bytes(255) + bytes([1])
 
 
-def _siblings_ascend(nodes, keys):
+def _are_siblings(nodes, keys):
     """Whether the parent of a node behind a statement is above that, and the sibling before it has a lesser key."""
     if keys is None:
         return False

@@ -6,8 +6,10 @@ with the paths' lengths. A frame that would close and open again at once stays o
 retired instructions.
 """
 import json
+import operator
 from itertools import compress
 
+from . import by_numpy, stacks_by_numpy
 from .columns import packed, picked
 from .contexts import Labels, readable
 from .database import CALL, INLINE, STMT
@@ -16,12 +18,12 @@ SCHEMA = "https://www.speedscope.app/file-format-schema.json"
 
 
 def write(out, database, options):
-    frames = _Frames(database, options)
+    frames = (_FramesByNumpy if by_numpy.is_here(len(database.nodes)) else _Frames)(database, options)
     _begin(out, options.title, frames.table)
     for hart in options.shown.harts:
         plane = options.shown.plane(database, hart)
         name = database.hart_name(hart) + (f", {options.shown.event(database).name}" if database.version > 1 else "")
-        _profile(out, hart == options.shown.harts[0], name, sum(plane.value), _events(frames, plane))
+        _profile(out, hart == options.shown.harts[0], name, sum(plane.value), frames.events(plane))
     out.write(b"]}\n")
 
 
@@ -37,12 +39,12 @@ def write_trace(out, slices, harts, title):
 
 
 def _moved(changes):
-    """The events of frames that end and begin."""
+    """The events of frames that end and begin, as one text."""
     found = []
     for moment, closed, opened in changes:
         found += [f'{{"type":"C","frame":{frame},"at":{moment}}}' for frame in closed]
         found += [f'{{"type":"O","frame":{frame},"at":{moment}}}' for frame in opened]
-    return found
+    return ",\n".join(found).encode()
 
 
 def _begin(out, title, frames):
@@ -56,7 +58,8 @@ def _profile(out, is_first, name, end, events):
     out.write(b'{"type":"evented","name":%s,"unit":"none","startValue":0,' % _json(name))
     out.write(b'"endValue":%d,"events":[' % end)
     if events:
-        out.write(b"\n" + ",\n".join(events).encode())
+        out.write(b"\n")
+        out.write(events)
     out.write(b"]}")
 
 
@@ -68,16 +71,59 @@ _IS_OPEN = bytes(scope < STMT for scope in range(256))
 _IS_ZERO = bytes([1]) + bytes(255)
 
 
-class _Frames:
-    """The frames' table. For each node its frame (-1 where it is none); the nearest node at or above it with a frame (-1
-    where there is none), but of a statement that has none; and for a node with a frame the nearest above it, and how
-    many are above."""
+class _Table:
+    """The frames' table: a frame of a procedure has the file of its first line."""
 
     def __init__(self, database, options):
         self.nodes, self.labels = database.nodes, Labels(database, readable)
-        self.with_places = options.with_places
+        self.with_places, self.table = options.with_places, []
+
+    def frame(self, node):
+        nodes, labels = self.nodes, self.labels
+        if nodes.scope[node] == INLINE:
+            return {"name": f"[I] {labels.procedure(node)}"}
+        if nodes.scope[node] >= CALL and nodes.line_file[node] >= 0:
+            return {"name": labels[node], "file": labels.files[nodes.line_file[node]], "line": nodes.line[node]}
+        return {"name": labels[node]}
+
+    def heads(self, kind):
+        """How the events of each frame begin."""
+        return [f'{{"type":"{kind}","frame":{frame},"at":' for frame in range(len(self.table))]
+
+
+class _FramesByNumpy(_Table):
+    """The table, and the events of each column."""
+
+    def __init__(self, database, options):
+        super().__init__(database, options)
+        found = stacks_by_numpy.numbered(self.nodes, self.with_places)
+        if options.min_percent:
+            found = stacks_by_numpy.without(found, options.shown.kept(database, options.min_percent))
+        frames, first = stacks_by_numpy.renumbered(found)
+        self.table = list(map(self.frame, first))
+        for frame, file in stacks_by_numpy.files_of(self.nodes, frames):
+            self.table[frame].setdefault("file", self.labels.files[file])
+        stacks = stacks_by_numpy.Stacks(self.nodes, frames, len(self.table))
+        self.openings = stacks_by_numpy.Openings(self.nodes, stacks)
+        self.texts = [[head.encode() for head in self.heads(kind)] for kind in "OC"]
+
+    def events(self, plane):
+        """The events as one text: O or C, frame, cost so far."""
+        places, closes, frames = self.openings.of(plane)
+        times = stacks_by_numpy.costs_before(plane)
+        heads = map(sum(self.texts, []).__getitem__, (closes * len(self.table) + frames).tolist())
+        ends = map([b"%d},\n" % time for time in times].__getitem__, places.tolist())
+        return b"".join(map(operator.add, heads, ends))[:-2]
+
+
+class _Frames(_Table):
+    """For each node its frame (-1 where it is none); the nearest node at or above it with a frame (-1 where there is
+    none), but of a statement that has none; and for a node with a frame the nearest above it, and how many are above."""
+
+    def __init__(self, database, options):
+        super().__init__(database, options)
         nothing = [-1] * (len(self.nodes) + 1)
-        self.table, self.of, self.nearest, self.above, self.depth = [], nothing, nothing[:], nothing[:], nothing[:]
+        self.of, self.nearest, self.above, self.depth = nothing, nothing[:], nothing[:], nothing[:]
         self._number(options.shown.kept(database, options.min_percent))
         self._find_files()
 
@@ -90,9 +136,10 @@ class _Frames:
             if not keeps or scope >= CALL and not self.with_places:
                 nearest[node] = above
                 continue
-            key = (scope, operand) if scope < CALL else (scope, nodes.line_file[node], nodes.line[node])
-            frame = numbers.setdefault(key, len(self.table))
-            if frame == len(self.table):
+            key = operand << 2 | scope if scope < CALL else (scope, nodes.line_file[node], nodes.line[node])
+            frame = numbers.get(key)
+            if frame is None:
+                frame = numbers[key] = len(self.table)
                 self.table.append(self.frame(node))
             self.of[node], nearest[node], self.above[node], depth[node] = frame, node, above, depth[above] + 1
 
@@ -110,49 +157,44 @@ class _Frames:
         for frame, file in dict(zip(reversed(frames), reversed(files))).items():
             self.table[frame].setdefault("file", self.labels.files[file])
 
-    def frame(self, node):
-        nodes, labels = self.nodes, self.labels
-        if nodes.scope[node] == INLINE:
-            return {"name": f"[I] {labels.procedure(node)}"}
-        if nodes.scope[node] >= CALL and nodes.line_file[node] >= 0:
-            return {"name": labels[node], "file": labels.files[nodes.line_file[node]], "line": nodes.line[node]}
-        return {"name": labels[node]}
-
     def sampled(self, plane):
         """The nearest node with a frame for each sampled statement of a plane."""
         return picked(self.nearest, plane.node if self.with_places else picked(self.nodes.parent, plane.node))
 
+    def events(self, plane):
+        """The events as one text: O or C, frame, cost so far."""
+        return ",\n".join(_events(self, plane)).encode()
+
 
 def _events(frames, plane):
-    """The events as texts: (O or C, frame, cost so far), each."""
+    """The texts of the events."""
     above, depth, of = frames.above, frames.depth, frames.of
-    opens, closes = ([f'{{"type":"{kind}","frame":{frame},"at":' for frame in range(len(frames.table))] for kind in "OC")
-    path, opened, events, at = [], [], [], 0
-
-    def close(level, time):
-        events.extend([closes[frame] + time for frame in reversed(opened[level:])])
-        del opened[level:]
-
+    opens, closes = frames.heads("O"), frames.heads("C")
+    # The nodes down to the last sample's, as many as its level says, and the frames that are open.
+    path, levels, opened, events, at, before = [-1] * (max(depth) + 1), 0, [], [], 0, None
     for node, value in zip(frames.sampled(plane), plane.value):
+        if node == before:
+            at += value
+            continue
+        before = node
         # The nodes from the last one that is open down to this one.
         below = []
-        while node >= 0 and (depth[node] >= len(path) or path[depth[node]] != node):
+        level = depth[node]
+        while node >= 0 and (level >= levels or path[level] != node):
             below.append(node)
-            node = above[node]
-        if below or depth[node] + 1 < len(path):
-            time = f"{at}}}"
-            del path[depth[node] + 1 :]
+            node, level = above[node], level - 1
+        if below or level + 1 < levels:
+            time, levels = f"{at}}}", level + 1
             for node in reversed(below):
-                level, frame = len(path), of[node]
-                path.append(node)
-                if level < len(opened):
-                    if opened[level] == frame:
-                        continue
-                    close(level, time)
-                opened.append(frame)
-                events.append(opens[frame] + time)
-            if len(path) < len(opened):
-                close(len(path), time)
+                frame, path[levels] = of[node], node
+                if levels == len(opened) or opened[levels] != frame:
+                    while len(opened) > levels:
+                        events.append(closes[opened.pop()] + time)
+                    opened.append(frame)
+                    events.append(opens[frame] + time)
+                levels += 1
+            while len(opened) > levels:
+                events.append(closes[opened.pop()] + time)
         at += value
-    close(0, f"{at}}}")
+    events += [f"{closes[frame]}{at}}}" for frame in reversed(opened)]
     return events

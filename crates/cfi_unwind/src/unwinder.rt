@@ -241,7 +241,8 @@ impl<'a> Unwind for Unwinder<'a> {
         self.path_in(pc, regs, memory, list)
     }
 
-    /// A path of one frame copies no registers.
+    /// A path of one frame copies no registers. That of a walk is made anew, since LLVM keeps in memory what a call
+    /// writes.
     #[inline(always)]
     fn path_in<L: Look>(
         &self,
@@ -257,7 +258,7 @@ impl<'a> Unwind for Unwinder<'a> {
                 frames.push(Frame { pc })?;
                 Ok(RawPath::of(end, frames))
             }
-            None => self.walk(pc, regs, memory, frames),
+            None => Ok(self.walk(pc, regs, memory, frames)?),
         }
     }
 }

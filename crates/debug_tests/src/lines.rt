@@ -8,7 +8,7 @@ use scope_types::LineId;
 use std::alloc::Global;
 use std::test::Fail;
 use test_programs::program::{Sections, UNREADABLE, Unread, image_of, lines_of};
-use test_programs::rows::{bytes_of, changed, extend_each, joined};
+use test_programs::rows::{bytes_of, changed, extend_each, joined, no_row};
 use test_programs::worked::{FILE, LINE};
 
 mod by_hand;
@@ -24,8 +24,7 @@ static COMPILED: [Program; 2] = [gcc_lines::PROGRAM, clang_lines::PROGRAM];
 
 #[test]
 fn programs_by_gcc_and_clang(rt: HostRuntime) -> Result<(), Fail> {
-    assert_eq!(rt; other_lines(rt.alloc(), &COMPILED)?, None);
-    Ok(())
+    no_row(other_lines(rt.alloc(), &COMPILED)?)
 }
 
 /// Whether each address has its row, of the table at the section's beginning.
@@ -129,8 +128,7 @@ fn other_rows(alloc: Global) -> Result<Option<&'static str>, Unread> {
 
 #[test]
 fn rows_of_each_opcode(rt: HostRuntime) -> Result<(), Fail> {
-    assert_eq!(rt; other_rows(rt.alloc())?, None);
-    Ok(())
+    no_row(other_rows(rt.alloc())?)
 }
 
 /// The offset of the fault in `.debug_line`, if there is one.
@@ -269,8 +267,7 @@ fn other_fault(alloc: Global) -> Result<Option<&'static str>, Unread> {
 
 #[test]
 fn each_fault(rt: HostRuntime) -> Result<(), Fail> {
-    assert_eq!(rt; other_fault(rt.alloc())?, None);
-    Ok(())
+    no_row(other_fault(rt.alloc())?)
 }
 
 /// The offset of the fault in the worked program's tables at these offsets, with these changes of `.debug_line`.
@@ -293,6 +290,5 @@ fn other_worked_fault(alloc: Global) -> Result<Option<&'static str>, Unread> {
 fn worked_programs(rt: HostRuntime) -> Result<(), Fail> {
     let lines = other_lines(rt.alloc(), &worked::WORKED_PROGRAMS)?;
     let fault = other_worked_fault(rt.alloc())?;
-    assert_eq!(rt; lines.or(fault), None);
-    Ok(())
+    no_row(lines.or(fault))
 }

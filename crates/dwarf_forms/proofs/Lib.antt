@@ -8,3 +8,4 @@ pub mod FormMoves
 pub mod Rooms
 pub mod FixedSizes
 pub mod Suffixes
+pub mod OneDeclaration

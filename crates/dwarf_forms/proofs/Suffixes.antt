@@ -21,7 +21,7 @@ Table = Result (List Abbrev × Input BadTable) BadTable
 
 -- ---- a declaration is where it was read
 
-abbrev StandsAt : ℕ → Read → Type 0
+abbrev pub StandsAt : ℕ → Read → Type 0
 StandsAt offset (Ok (Some d, after)) = d.offset ≡ offset
 StandsAt offset (Ok (None, after)) = Unit {0}
 StandsAt offset (Err fault) = Unit {0}
@@ -36,7 +36,7 @@ unfolding declared_from
 declared_stands offset code input =
     stands_then offset (uleb_from input) _ (λ tag. stands_then offset (number_from 1 tag.1) _ (λ children. stands_then offset (attributes_from children.1) _ (λ specs. refl)))
 
-declaration_stands : (input : Input BadTable) → StandsAt input.at.offset (declaration_from input)
+pub declaration_stands : (input : Input BadTable) → StandsAt input.at.offset (declaration_from input)
 unfolding declaration_from
 declaration_stands input =
     stands_then input.at.offset (uleb_from input) _ (λ code. by (code.0 == 0) code.1 (declared_from input.at.offset code.0 code.1) (declared_stands input.at.offset code.0 code.1))
@@ -47,7 +47,7 @@ declaration_stands input =
 
 -- ---- tables
 
-abbrev input_from : List ℕ → ℕ → Input BadTable
+abbrev pub input_from : List ℕ → ℕ → Input BadTable
 input_from section offset = record { at = record { whole = section; offset = offset }; missing = bad }
 
 -- the declarations from an index on are what is read at the offset of the first of them
@@ -104,7 +104,7 @@ was_read (Ok r) table e = let same : r.0 ≡ table = cc in (r.1, ap (λ (ds : Li
 was_read (Err fault) table e = absurd cc
 
 -- a table lies within its section
-within : (section : List ℕ) (start : ℕ) (table : List Abbrev) → table_at section start ≡ Ok table → (end : Input BadTable) × (table_from (input_from section start) ≡ Ok (table, end))
+pub within : (section : List ℕ) (start : ℕ) (table : List Abbrev) → table_at section start ≡ Ok table → (end : Input BadTable) × (table_from (input_from section start) ≡ Ok (table, end))
 unfolding listed
 within section start table e = by (nat_le start (length section)) refl
   where

@@ -1,5 +1,6 @@
 -- Abbreviation tables. DWARF 5, section 7.5.3.
-use Rattle.std.specs.Prelude.{ℕ, ℤ, pos, ◌==◌, ◌&&◌, not, List, length, Option, Some, None, Result, Ok, if◌then◌else◌}
+use Rattle.std.specs.Prelude.{ℕ, ℤ, pos, ◌==◌, ◌&&◌, not, List, length, find, Option, Some, None, option_map}
+use Rattle.std.specs.Prelude.{Result, Ok, if◌then◌else◌}
 use Rattle.prof_bytes.specs.Reading.{left_of}
 use Rattle.prof_bytes.specs.Fields.{Input, number_from, uleb_from, sleb_from}
 use Rattle.prof_bytes.specs.Outcome.{◌>>=◌}
@@ -67,3 +68,35 @@ table_at bytes offset = do
   input ← input_at bytes offset bad
   (declarations, end) ← table_from input
   Ok declarations
+
+-- the code of a declaration, and the input at its attributes
+unfoldable pub code_from : Input BadTable → Result (ℕ × Input BadTable) BadTable
+code_from input = do
+  (code, input) ← uleb_from input
+  (tag, input) ← uleb_from input
+  (children, input) ← number_from 1 input
+  Ok (code, input)
+
+-- the code that is declared at an offset of the section's bytes
+abbrev pub code_at : List ℕ → ℕ → Result ℕ BadTable
+code_at bytes offset = do
+  input ← input_at bytes offset bad
+  (code, after) ← uleb_from input
+  Ok code
+
+-- the input at the attributes of the declaration at an offset
+abbrev pub specs_at : List ℕ → ℕ → Result (Input BadTable) BadTable
+specs_at bytes offset = do
+  input ← input_at bytes offset bad
+  (code, after) ← code_from input
+  Ok after
+
+-- the offset of the first declaration of a code
+abbrev pub offset_of_code : ℕ → List Abbrev → Option ℕ
+offset_of_code code declared = option_map (λ d. d.offset) (find (λ d. d.code == code) declared)
+
+-- the offset of the first declaration of a code in the table at an offset
+abbrev pub first_declaration : List ℕ → ℕ → ℕ → Result (Option ℕ) BadTable
+first_declaration bytes offset code = do
+  declared ← table_at bytes offset
+  Ok (offset_of_code code declared)

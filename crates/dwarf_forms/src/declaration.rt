@@ -162,6 +162,13 @@ impl Abbrevs {
         }
     }
 
+    /// Its declarations.
+    pub fn as_slice(&self) -> &[Abbrev]
+        ensures { result.now ≡ self.now }
+    {
+        self.items.as_slice()
+    }
+
     /// The index of the first declaration of a code.
     fn index_of(&self, code: u64) -> Option<usize>
         ensures { result ≡ position (λ declared. declared.code == code) self.now }

@@ -33,9 +33,9 @@ fn unless_closing(spec: Spec) -> Option<Spec>
     Some(spec)
 }
 
-/// An attribute specification; `None` for the pair 0, 0 that ends the list.
+/// An attribute specification (DWARF 5, section 7.5.3); `None` for the pair 0, 0 that ends the list.
 #[tactic(auto, unfolding(crate::specs::Abbreviations::attribute_from))]
-fn attribute(reader: &mut Reader<'_, BadTable>) -> Result<Option<Spec>, BadTable>
+pub fn attribute(reader: &mut Reader<'_, BadTable>) -> Result<Option<Spec>, BadTable>
     ensures { GivesAt (λ s. s) result reader.new (attribute_from reader.old) }
 {
     let attribute = reader.uleb()?;

@@ -1,7 +1,6 @@
 pub mod OneValue
 pub mod Past
 pub mod Bodies
-pub mod UnitLists
 pub mod RangeLists
 pub mod SetFlags
 pub mod Indexed
@@ -13,3 +12,5 @@ pub mod Marks
 pub mod Bounds
 pub mod FixedValues
 pub mod Suffixes
+pub mod Outlining
+pub mod CodeLists

@@ -155,7 +155,7 @@ body_is sections number header table body first old new read stands known marked
     ap (λ (o : Option ℕ). unit_context sections number header (unit_values sections header.end table o)) (sym s.2) ∙ sym read_is in
     let declared : or_none (table_at sections.abbrev_bytes header.debug_abbrev_offset) ≡ table = ap (λ (r : Result (List Abbrev) _). or_none r) known in
     let is_read : IsRead sections (unit_context sections number header (unit_values sections header.end table first)) =
-    record { entries = s.0; read = ap (λ (ds : List Abbrev). entries_from ds number (unit_body sections header)) declared ∙ here } in
+    record { table = known ∙ ap (λ (ds : List Abbrev). Ok ds) (sym declared); entries = s.0; read = ap (λ (ds : List Abbrev). entries_from ds number (unit_body sections header)) declared ∙ here } in
     let are : AreMarked sections old new (unit_context sections number header (unit_values sections header.end table first)) = record { read = is_read; added = s.3 } in (
       rw (known, here) (ap one_unit same),
       subst (AreMarked sections old new) (sym read_is) are,

@@ -1,7 +1,7 @@
 -- Flags that are set, and their offsets.
 use Rattle.std.proofs.Common.{◌≡◌, ◌≢◌, ◌==◌, inl, inr, ℕ, zero, suc, ◌+◌, ◌*◌, ◌-◌, ◌<◌, ◌≤◌, Bool, true, false, cond, ltb, leb, eq-eqb, List, [], ◌∷◌, ◌++◌, length, get_or, take, drop, min, length-drop, replicate, length-append, Option, Some, None, refl, sym, ap, ◌∙◌, subst, arith}
 use Rattle.std.proofs.Math.ListN.{set}
-use Rattle.std.specs.Prelude.{slice_get, position}
+use Rattle.std.specs.Prelude.{slice_get, position, AllPairs}
 use Rattle.std.specs.List.{filter, position_or_len}
 use Rattle.std.proofs.lemmas.Bool.{cases_lt, lt-ltb, le-ltb, ne_eqb, leb-true, leb-false}
 use Rattle.std.proofs.lemmas.List.{take-append-drop, length-take-le, take_min, drop_min}
@@ -86,6 +86,16 @@ lies from [] i d lt = absurd (omega arith)
 lies from (true ∷ flags) zero d lt = (omega arith, omega arith)
 lies from (true ∷ flags) (suc i) d lt = let l = lies (from + 1) flags i d (omega arith) in let a = l.0 in let b = l.1 in (omega arith, omega arith)
 lies from (false ∷ flags) i d lt = let l = lies (from + 1) flags i d (omega arith) in let a = l.0 in let b = l.1 in (omega arith, omega arith)
+
+-- the offsets ascend
+pub set_ascends : (from : ℕ) (flags : List Bool) → AllPairs (λ a b. a < b) (set_from from flags)
+unfolding set_from
+set_ascends from [] i j d lt there = absurd (omega arith)
+set_ascends from (true ∷ flags) zero zero d lt there = absurd (omega arith)
+set_ascends from (true ∷ flags) zero (suc j) d lt there = let l = lies (from + 1) flags j d (omega arith) in let a = l.0 in omega arith
+set_ascends from (true ∷ flags) (suc i) zero d lt there = absurd (omega arith)
+set_ascends from (true ∷ flags) (suc i) (suc j) d lt there = set_ascends (from + 1) flags i j d (omega arith) (omega arith)
+set_ascends from (false ∷ flags) i j d lt there = set_ascends (from + 1) flags i j d lt there
 
 is_set : (from : ℕ) (flags : List Bool) (i d o : ℕ) → i < length (set_from from flags) → get_or (set_from from flags) i d ≡ from + o → slice_get flags o ≡ Some true
 unfolding set_from

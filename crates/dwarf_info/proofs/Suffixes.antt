@@ -12,6 +12,7 @@ use Rattle.dwarf_info.proofs.Bodies.{first_behind}
 use Rattle.dwarf_info.specs.declared.tables.Suffix.{Suffix}
 use Rattle.dwarf_info.specs.declared.tables.Tables.{Tables}
 use Rattle.dwarf_info.specs.private.Tables.{suffix_of, table_in, IsSuffix, IsTableKnown, AreTables}
+use Rattle.dwarf_info.specs.private.CodeLists.{AreCodeLists}
 
 abbrev Read : Type 0
 Read = List (List Abbrev)
@@ -56,23 +57,18 @@ stands_within read suffix (Some whole) table e is = slice_within read suffix.tab
 pub one_more : (section : List ℕ) (old new : Tables) (offset : ℕ) (suffix : Suffix) → AreTables section old
     → length old.read.items ≤ length new.read.items → ((k : ℕ) → k < length old.read.items → slice_get new.read.items k ≡ slice_get old.read.items k)
     → ((q : ℕ) → get nat_cmp new.suffixes q ≡ if_some (offset == q) suffix (get nat_cmp old.suffixes q))
-    → IsSuffix section new.read.items suffix offset → IsTableKnown section old new offset
-one_more section old new offset suffix tables longer same added stands = record {
+    → new.lists.items ≡ old.lists.items → IsSuffix section new.read.items suffix offset → IsTableKnown section new offset
+one_more section old new offset suffix tables longer same added lists stands = record {
   are = record {
     within = λ q p e. suffix_within q p (offset == q) (sym (added q) ∙ e);
     are = λ q table e. table_is q table (offset == q) refl (sym (ap (option_and_then (suffix_of new.read.items)) (added q)) ∙ e);
+    lists = subst (AreCodeLists section) (sym lists) tables.lists;
   };
-  keep = λ q e. kept q (offset == q) refl e;
   has = ap is_some (here offset (eq-eqb offset offset refl) ∙ stands.stands);
 }
   where
     here : (q : ℕ) → (offset == q) ≡ true → table_in new q ≡ suffix_of new.read.items suffix
     here q e = ap (option_and_then (suffix_of new.read.items)) (added q ∙ ap (λ (b : Bool). if_some b suffix (get nat_cmp old.suffixes q)) e)
-
-    other : (q : ℕ) → (offset == q) ≡ false → table_in new q ≡ table_in old q
-    other q e =
-        ap (option_and_then (suffix_of new.read.items)) (added q ∙ ap (λ (b : Bool). if_some b suffix (get nat_cmp old.suffixes q)) e)
-        ∙ from_suffixes old.read.items new.read.items (get nat_cmp old.suffixes q) same (tables.within q)
 
     suffix_within : (q : ℕ) (p : Suffix) (b : Bool) → if_some b suffix (get nat_cmp old.suffixes q) ≡ Some p → p.table < length new.read.items
     suffix_within q p true e =
@@ -86,10 +82,6 @@ one_more section old new offset suffix tables longer same added stands = record 
         subst (λ (n : ℕ). table_at section n ≡ Ok table) (eqb-true offset q at) (stands.is ∙ ap (λ (xs : List Abbrev). Ok xs) is)
     table_is q table false at e =
         tables.are q table (sym (from_suffixes old.read.items new.read.items (get nat_cmp old.suffixes q) same (tables.within q)) ∙ e)
-
-    kept : (q : ℕ) (b : Bool) → (offset == q) ≡ b → is_some (table_in old q) ≡ true → is_some (table_in new q) ≡ true
-    kept q true at e = ap is_some (here q at ∙ stands.stands)
-    kept q false at e = ap is_some (other q at) ∙ e
 
 -- a table that was read is the last one
 pub is_last : (section : List ℕ) (read new : Read) (table : List Abbrev) (suffix : Suffix) (offset : ℕ) → new ≡ read ++ table ∷ [] → suffix.table ≡ length read → suffix.from ≡ 0

@@ -1,6 +1,6 @@
 -- The values of an entry with its unit.
-use Rattle.std.proofs.Common.{◌≡◌, ℕ, true, List, Option, Some, None, refl, sym, ap, ◌∙◌, subst}
-use Rattle.std.specs.Prelude.{slice_get, is_some, option_map, option_and_then}
+use Rattle.std.proofs.Common.{◌≡◌, ℕ, List, Option, Some, None, refl, sym, ap, ◌∙◌}
+use Rattle.std.specs.Prelude.{slice_get, option_map, option_and_then}
 use Rattle.dwarf_forms.specs.declared.value.FormFault.TheVariants.{Short}
 use Rattle.dwarf_forms.specs.Abbreviations.{table_at}
 use Rattle.dwarf_forms.specs.Values.{FormValue}
@@ -9,8 +9,6 @@ use Rattle.dwarf_info.specs.declared.entry.InfoEntry.{InfoEntry}
 use Rattle.dwarf_info.specs.Sections.{section_up_to}
 use Rattle.dwarf_info.specs.Values.{value_of, entry_values}
 use Rattle.dwarf_info.specs.Units.{DebugInfo, or_none}
-use Rattle.dwarf_info.specs.declared.tables.Tables.{Tables}
-use Rattle.dwarf_info.specs.private.Tables.{table_in, AreTables, HaveTables}
 use Rattle.dwarf_info.specs.Queries.{UnitEntry, unit_entry, attribute_value}
 
 abbrev with_unit : InfoEntry → Option UnitContext → Option UnitEntry
@@ -30,10 +28,9 @@ Shown = UnitContext × ℕ
 abbrev shown : Option UnitEntry → Option Shown
 shown o = option_map (λ s. (s.context, s.entry.offset)) o
 
-abbrev pub Finds : DebugInfo → Tables → ℕ → UnitContext → ℕ → Option FormValue → Type 0
-Finds info tables attribute read offset r =
-    (section : List ℕ) → AreTables section tables → is_some (table_in tables read.header.debug_abbrev_offset) ≡ true
-    → r ≡ value_of attribute (entry_values (or_none (table_at section read.header.debug_abbrev_offset)) (section_up_to read.header.end info.sections.info offset Short))
+abbrev pub Finds : DebugInfo → ℕ → UnitContext → ℕ → Option FormValue → Type 0
+Finds info attribute read offset r =
+    r ≡ value_of attribute (entry_values (or_none (table_at info.sections.abbrev_bytes read.header.debug_abbrev_offset)) (section_up_to read.header.end info.sections.info offset Short))
 
 abbrev read_or : UnitContext → Option Shown → UnitContext
 read_or d None = d
@@ -49,25 +46,21 @@ offset_or (Some p) = p.1
 same_offset : (t : UnitEntry) (u : UnitContext) (n : ℕ) → shown (Some t) ≡ Some (u, n) → t.entry.offset ≡ n
 same_offset t u n e = ap offset_or e
 
-found_in : (info : DebugInfo) (tables : Tables) (i attribute : ℕ) (read : UnitContext) (offset : ℕ) (r : Option FormValue) (o : Option UnitEntry) → unit_entry info i ≡ o
-    → AreTables info.sections.abbrev_bytes tables → HaveTables tables info.units
-    → shown o ≡ Some (read, offset) → Finds info tables attribute read offset r
+found_in : (info : DebugInfo) (i attribute : ℕ) (read : UnitContext) (offset : ℕ) (r : Option FormValue) (o : Option UnitEntry) → unit_entry info i ≡ o
+    → shown o ≡ Some (read, offset) → Finds info attribute read offset r
     → r ≡ option_and_then (attribute_value info attribute) o
-found_in info tables i attribute read offset r None at are have is finds = absurd cc
-found_in info tables i attribute read offset r (Some s) at are have is finds =
-    let k = there_is info.units (slice_get info.entries i) s at in
+found_in info i attribute read offset r None at is finds = absurd cc
+found_in info i attribute read offset r (Some s) at is finds =
     let first : s.context ≡ read = same_read s read offset is in
     let second : s.entry.offset ≡ offset = same_offset s read offset is in
-    let has : is_some (table_in tables read.header.debug_abbrev_offset) ≡ true = subst (λ (u : UnitContext). is_some (table_in tables u.header.debug_abbrev_offset) ≡ true) first (have k.0 s.context k.1) in
-    finds info.sections.abbrev_bytes are has
+    finds
     ∙ ap (λ (u : UnitContext). value_of attribute (entry_values (or_none (table_at info.sections.abbrev_bytes u.header.debug_abbrev_offset)) (section_up_to u.header.end info.sections.info offset Short))) (sym first)
     ∙ ap (λ (n : ℕ). value_of attribute (entry_values (or_none (table_at info.sections.abbrev_bytes s.context.header.debug_abbrev_offset)) (section_up_to s.context.header.end info.sections.info n Short))) (sym second)
 
 abbrev pub some_shown : UnitContext × ℕ → Option (UnitContext × ℕ)
 some_shown p = Some p
 
-pub found : (info : DebugInfo) (tables : Tables) (i attribute : ℕ) (read : UnitContext) (offset : ℕ) (r : Option FormValue)
-    → AreTables info.sections.abbrev_bytes tables → HaveTables tables info.units
-    → some_shown (read, offset) ≡ option_map (λ s. (s.context, s.entry.offset)) (unit_entry info i) → Finds info tables attribute read offset r
+pub found : (info : DebugInfo) (i attribute : ℕ) (read : UnitContext) (offset : ℕ) (r : Option FormValue)
+    → some_shown (read, offset) ≡ option_map (λ s. (s.context, s.entry.offset)) (unit_entry info i) → Finds info attribute read offset r
     → r ≡ option_and_then (attribute_value info attribute) (unit_entry info i)
-found info tables i attribute read offset r are have is finds = found_in info tables i attribute read offset r (unit_entry info i) refl are have (sym is) finds
+found info i attribute read offset r is finds = found_in info i attribute read offset r (unit_entry info i) refl (sym is) finds

@@ -4,6 +4,7 @@ pub mod Attributes
 pub mod UnitHeaders
 pub mod Entries
 pub mod Units
+pub mod Subroutines
 pub mod Queries
 pub mod Ranges
 pub mod private

@@ -4,3 +4,5 @@ pub mod Starts
 pub mod Indexed
 pub mod Parts
 pub mod Located
+pub mod Outlines
+pub mod CodeLists

@@ -42,7 +42,7 @@ fn declared_entry(
 
 /// The entry that begins here, `None` for a null entry; and the depth of what follows it.
 #[tactic(auto, unfolding(crate::specs::Entries::entry_from))]
-fn read_entry(
+pub(crate) fn read_entry(
     reader: &mut Reader<'_, InfoFault>,
     table: &Declarations<'_>,
     unit: u32,

@@ -1,91 +1,37 @@
 //! Debug information that was read, and the attributes of its entries.
-ghost use Rattle.std.specs.Prelude.{◌≡◌, ◌<◌, ◌^◌, ◌++◌, ℕ, List, true, is_some, length, map, IfOk, OnOk, option_map};
-ghost use Rattle.std.specs.Prelude.{option_copied, option_and_then, IfSome};
+ghost use Rattle.std.specs.Prelude.{◌≡◌, ◌<◌, ◌^◌, length, map, IfOk, option_map};
+ghost use Rattle.std.specs.Prelude.{option_copied, option_and_then, IfSome, slice_get, AllPairs, ◌+◌};
 ghost use Rattle.prof_bytes.specs.Outcome.{Gives};
-ghost use Rattle.dwarf_forms.specs.declared.value.FormFault.TheVariants.{Short};
-ghost use Rattle.dwarf_forms.specs.Abbreviations.{table_at};
 ghost use Rattle.dwarf_forms.specs.Values.{form_value};
-ghost use Rattle.dwarf_info.specs.Sections.{sections_of, section_up_to};
-ghost use Rattle.dwarf_info.specs.Values.{value_of, entry_values};
-ghost use Rattle.dwarf_info.specs.Units.{unit_of, or_none, entries_in, debug_info_of};
+ghost use Rattle.dwarf_info.specs.Sections.{sections_of};
+ghost use Rattle.dwarf_info.specs.Units.{unit_of, debug_info_of};
 ghost use Rattle.dwarf_info.specs.Queries.{unit_entry, attribute_value, attribute_text, attribute_entry};
 ghost use Rattle.dwarf_info.specs.Queries.{attribute_number, name_of, link_of, call_site_of};
+ghost use Rattle.dwarf_info.specs.Subroutines.{item_entries, subroutine_entry};
 ghost use Rattle.dwarf_info.specs.Ranges.{attribute_ranges, low_pc_of, low_high_of, one_or_none, ranges_of};
 ghost use Rattle.dwarf_info.specs.private.Located.{IsLocated, found_unit, own_unit};
-ghost use Rattle.dwarf_info.specs.private.Indexed.{IsRead};
-ghost use Rattle.dwarf_info.specs.private.Tables.{table_in, AreTables};
 
-use crate::attributes::{address_value, bytes_before, constant_value, text_value};
+use crate::attributes::{address_value, constant_value, text_value};
 use crate::constants::{
     DW_AT_abstract_origin, DW_AT_call_file, DW_AT_call_line, DW_AT_high_pc, DW_AT_linkage_name,
     DW_AT_low_pc, DW_AT_name, DW_AT_ranges, DW_AT_specification,
 };
-use crate::entries::read_entries;
 use crate::entry::{InfoEntry, Unit, UnitContext};
 use crate::fault::InfoFault;
 use crate::indices::referred;
 use crate::offsets::{Offsets, count_up_to};
+use crate::outline::{Outline, add_outline};
 use crate::pairs::Ranges;
 use crate::ranges::{high_pc_value, ranges_at, rnglist_offset};
 use crate::starts::Starts;
 use crate::tables::Tables;
-use crate::units::{named_tables, read_units, value_at};
+use crate::unit_entries::{add_entries, tabled_value};
+use crate::units::{named_tables, read_units};
 use dwarf_forms::Value;
 use elf_image::DebugParts;
-use prof_bytes::{Fail, Memory, Reader};
+use prof_bytes::{Fail, Memory};
 use std::alloc::Global;
 use std::marker::Model;
-
-/// The first value of an attribute of the entry at an offset of a unit.
-fn tabled_value<'a>(
-    info: &'a [u8],
-    tables: &Tables,
-    context: UnitContext,
-    offset: u32,
-    attribute: u64,
-) -> Option<Value<'a>>
-    ensures { (section : List ℕ) → AreTables section tables.now
-        → is_some (table_in tables.now context.header.debug_abbrev_offset) ≡ true
-        → option_map form_value result ≡ value_of attribute
-        (entry_values (or_none (table_at section context.header.debug_abbrev_offset))
-        (section_up_to context.header.end info.now offset Short)) }
-{
-    match tables.get(context.header.debug_abbrev_offset) {
-        Some(table) => value_at(info, &table, context.header.end, offset, attribute),
-        None => None,
-    }
-}
-
-/// Reads the entries of a unit again, and appends them.
-fn add_entries(
-    sections: &DebugParts<'_>,
-    tables: &Tables,
-    context: &UnitContext,
-    entries: &mut Vec<InfoEntry>,
-) -> Result<(), Memory>
-    requires small { length sections.now.info.now < 2 ^ 31 }
-    requires are { AreTables sections.now.«abbrev».now tables.now }
-    requires has { is_some (table_in tables.now context.now.header.debug_abbrev_offset) ≡ true }
-    requires read { IsRead (sections_of sections.now) context.now }
-    ensures { OnOk result (entries.new.items ≡ entries.old.items ++ entries_in (sections_of sections.now) context.now) }
-{
-    let header = context.header;
-    let missing = InfoFault::BadUnit {
-        offset: header.offset,
-    };
-    let table = tables.get(header.debug_abbrev_offset).unwrap();
-    let bytes = bytes_before(sections.info, header.end);
-    let offset = header.first_entry as usize;
-    if offset > bytes.len() {
-        return Ok(());
-    }
-    let mut reader = Reader::new(bytes, offset, missing);
-    match read_entries(&mut reader, &table, context.index, entries) {
-        Ok(()) => Ok(()),
-        Err(Fail::Memory(memory)) => Err(memory),
-        Err(Fail::Fault(_)) => unreachable!(),
-    }
-}
 
 /// An entry: its index, its unit and its offset.
 #[derive(Clone, Copy)]
@@ -148,9 +94,42 @@ impl<'a> Info<'a> {
     {
         let mut entries = Vec::new(alloc);
         for context in self.contexts.as_slice() {
-            add_entries(&self.sections, &self.tables, context, &mut entries)?;
+            add_entries(alloc, &self.sections, &self.tables, context, &mut entries)?;
         }
         Ok(entries)
+    }
+
+    /// How deep each entry is, and which entries are subprograms or inlined subroutines. Each call reads the entries
+    /// again.
+    pub fn outline(&self, alloc: Global) -> Result<Outline, Memory>
+        ensures depths { IfOk result (λ o. o.depths.items ≡ map (λ e. e.depth) self.now.entries) }
+        ensures subroutines { IfOk result (λ o. o.subroutines.items ≡ map subroutine_entry (item_entries self.now)) }
+        ensures few { length self.now.entries < 2 ^ 31 }
+        ensures ascend { AllPairs (λ e f. e.offset < f.offset) self.now.entries }
+    {
+        let mut outline = Outline {
+            depths: Vec::new(alloc),
+            subroutines: Vec::new(alloc),
+        };
+        for context in self.contexts.as_slice() {
+            add_outline(alloc, &self.sections, &self.tables, context, &mut outline)?;
+        }
+        Ok(outline)
+    }
+
+    /// The offset in `.debug_info` of the entry with index `i`.
+    pub fn entry_offset(&self, i: u32) -> Option<u32>
+        ensures { result ≡ option_map (λ e. e.offset) (slice_get self.now.entries i) }
+    {
+        self.offsets.get(i)
+    }
+
+    /// The offset in `.debug_line` of the line table of the unit of the entry with index `i`.
+    pub fn line_table(&self, i: u32) -> Option<u32>
+        ensures { result ≡ option_and_then (λ e. e.context.stmt_list) (unit_entry self.now i) }
+    {
+        let at = self.located(i)?;
+        at.context.stmt_list
     }
 
     /// The name of the entry with index `i` (DWARF 5, section 2.15), or else its linkage name (section 2.22).
@@ -216,7 +195,7 @@ impl<'a> Info<'a> {
             ≡ option_and_then (attribute_value self.now attribute) (unit_entry self.now at.index) }
     {
         tabled_value(
-            self.sections.info,
+            &self.sections,
             &self.tables,
             at.context,
             at.offset,
@@ -328,7 +307,9 @@ fn shown_units(alloc: Global, contexts: &[UnitContext]) -> Result<Vec<Unit>, Mem
 }
 
 /// The debug information of these sections (DWARF 5, section 7.5), or the first fault in section order. Takes time
-/// linear in the bytes of `.debug_info`, and in those of each abbreviation table that units name: each is read once.
+/// linear in the bytes of `.debug_info`, and in those of each abbreviation table that units name: each is read once. Of
+/// tables that overlap only as many are kept as `.debug_abbrev` could hold side by side; each other one is read again for
+/// each unit that names it, here and where all entries are read again.
 #[tactic(auto, unfolding(crate::specs::Units::debug_info_of))]
 pub fn read_info<'a>(alloc: Global, sections: DebugParts<'a>) -> Result<Info<'a>, Fail<InfoFault>>
     requires info { length sections.info.now < 2 ^ 31 }

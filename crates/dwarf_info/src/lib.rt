@@ -8,6 +8,7 @@
 #![tactic(auto)]
 
 mod attributes;
+mod code_list;
 pub mod constants;
 mod entries;
 mod entry;
@@ -16,10 +17,12 @@ mod indices;
 mod info;
 mod laws;
 mod offsets;
+mod outline;
 mod pairs;
 mod ranges;
 mod starts;
 mod tables;
+mod unit_entries;
 mod unit_header;
 mod units;
 mod values;
@@ -29,4 +32,5 @@ pub use entry::{InfoEntry, Unit};
 pub use fault::InfoFault;
 pub use info::{Info, read_info};
 pub use laws::die_count_is_at_most_bytes;
+pub use outline::{Outline, SubroutineEntry};
 pub use pairs::Ranges;

@@ -1,6 +1,6 @@
 //! The units of `.debug_info`, each with its entries (DWARF 5, sections 3.1.1 and 7.5.1).
-ghost use Rattle.std.specs.Prelude.{◌≡◌, ◌+◌, ◌<◌, ◌≤◌, ◌++◌, ◌∷◌, [], ◌^◌, ℕ, IfOk, OnOk, IfSome, MatchOption, true};
-ghost use Rattle.std.specs.Prelude.{option_map, option_and_then, is_some, length, option_to_list, List, Result, Ok};
+ghost use Rattle.std.specs.Prelude.{◌≡◌, ◌+◌, ◌<◌, ◌≤◌, ◌++◌, ◌∷◌, [], ◌^◌, ℕ, IfOk, OnOk, IfSome, MatchOption};
+ghost use Rattle.std.specs.Prelude.{option_map, option_and_then, length, option_to_list, List, Result, Ok};
 ghost use Rattle.std.specs.Prelude.{Some};
 ghost use Rattle.prof_bytes.specs.Outcome.{Gives, FailsBy};
 ghost use Rattle.dwarf_forms.specs.declared.declaration.Abbrev.{Abbrev};
@@ -15,9 +15,10 @@ ghost use Rattle.dwarf_info.specs.Attributes.{address_value};
 ghost use Rattle.dwarf_info.specs.Units.{unit_values, sec_offset_of, unit_context, unit_body, failing_as, read_unit};
 ghost use Rattle.dwarf_info.specs.Units.{unit_from, units_of};
 ghost use Rattle.dwarf_info.specs.private.Indexed.{AreMarked, AreIndexed};
-ghost use Rattle.dwarf_info.specs.private.Tables.{table_in, AreTables, KeepTables, HaveTables};
+ghost use Rattle.dwarf_info.specs.private.Tables.{AreTables};
 
 use crate::attributes::{address_value, bytes_before, section_value};
+use crate::code_list::{CodeList, codes_of_entries};
 use crate::constants::{
     DW_AT_addr_base, DW_AT_low_pc, DW_AT_rnglists_base, DW_AT_stmt_list, DW_AT_str_offsets_base,
 };
@@ -141,7 +142,8 @@ fn read_body<'a>(
     Ok(unit_context(die, index, header))
 }
 
-/// A unit with its header: its table is read unless it is known, and the offsets of its entries are marked.
+/// A unit with its header: its table is read unless it is known, and the offsets of its entries are marked. Where there
+/// is no room for the table, the declarations that its entries name are kept.
 fn read_headed<'a>(
     alloc: Global,
     sections: &DebugParts<'a>,
@@ -162,16 +164,28 @@ fn read_headed<'a>(
         → starts.new.end ≤ bound) }
     ensures number { IfOk result (λ u. u.index ≡ «unit».0) }
     ensures are { IfOk result (λ _. AreTables sections.now.«abbrev».now tables.new) }
-    ensures keep { IfOk result (λ _. KeepTables tables.old tables.new) }
-    ensures has { IfOk result (λ u. is_some (table_in tables.new u.header.debug_abbrev_offset) ≡ true) }
 {
     let header = unit.1;
-    match tables.know(alloc, sections.abbrev, header.debug_abbrev_offset) {
-        Ok(()) => {}
-        Err(fail) => return Err(table_fault(fail, header.offset)),
+    let offset = header.debug_abbrev_offset;
+    match tables.know(alloc, sections.abbrev, offset) {
+        Err(fail) => Err(table_fault(fail, header.offset)),
+        Ok(None) => {
+            let table = tables.get(offset).unwrap();
+            read_body(sections, &table, unit, body, starts)
+        }
+        Ok(Some(other)) => {
+            let table = other.from_index(0);
+            let mut again = body.fork();
+            let context = read_body(sections, &table, unit, body, starts)?;
+            let offsets = codes_of_entries(alloc, &mut again, &table)?;
+            tables.list(CodeList {
+                index: unit.0,
+                table: offset,
+                offsets,
+            })?;
+            Ok(context)
+        }
     }
-    let table = tables.get(header.debug_abbrev_offset).unwrap();
-    read_body(sections, &table, unit, body, starts)
 }
 
 /// The unit that begins here, `None` where it is skipped, and the index of the next one.
@@ -199,9 +213,6 @@ fn read_unit<'a>(
     ensures next { IfOk result (λ r. r.1 ≡ index + length (option_to_list r.0)) }
     ensures number { IfOk result (λ r. IfSome r.0 (λ u. u.index ≡ index)) }
     ensures are { IfOk result (λ _. AreTables sections.now.«abbrev».now tables.new) }
-    ensures keep { IfOk result (λ _. KeepTables tables.old tables.new) }
-    ensures has { IfOk result (λ r. IfSome r.0
-        (λ u. is_some (table_in tables.new u.header.debug_abbrev_offset) ≡ true)) }
     ensures whole { IfOk result (λ _. reader.new.at.whole ≡ reader.old.at.whole) }
 {
     let offset = offset_of(reader);
@@ -246,7 +257,6 @@ pub(crate) fn read_units(
         starts.new.offsets firsts.new.items) }
     ensures bytes { IfOk result (λ _. starts.new.bytes ≡ length sections.now.info.now) }
     ensures are { IfOk result (λ _. AreTables sections.now.«abbrev».now tables.new) }
-    ensures have { IfOk result (λ v. HaveTables tables.new v.items) }
 {
     let mut units = Vec::new(alloc);
     let mut index = 0;
@@ -298,8 +308,8 @@ fn put_table_offsets(sections: &DebugParts<'_>, offsets: &mut Vec<u32>) -> Resul
     Ok(())
 }
 
-/// The abbreviation tables that units name, up to the first malformed header or table. They are read in ascending
-/// order, so that a table that is a suffix of another comes after it.
+/// The abbreviation tables that units name, up to the first malformed header or table, or the first for which there is
+/// no room. They are read in ascending order, so that a table that is a suffix of another comes after it.
 pub(crate) fn named_tables(alloc: Global, sections: &DebugParts<'_>) -> Result<Tables, Memory>
     requires { length sections.now.info.now < 2 ^ 31 }
     ensures { IfOk result (λ tables. AreTables sections.now.«abbrev».now tables) }
@@ -307,7 +317,7 @@ pub(crate) fn named_tables(alloc: Global, sections: &DebugParts<'_>) -> Result<T
     let mut offsets = Vec::new(alloc);
     put_table_offsets(sections, &mut offsets)?;
     offsets.sort_unstable();
-    let mut tables = Tables::new(alloc);
+    let mut tables = Tables::new(alloc, sections.abbrev.len());
     tables.know_all(alloc, sections.abbrev, offsets.as_slice())?;
     Ok(tables)
 }

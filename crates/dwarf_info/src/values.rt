@@ -1,13 +1,16 @@
 //! The values of one entry (DWARF 5, section 7.5.3).
-ghost use Rattle.std.specs.Prelude.{◌≡◌, ◌==◌, IfOk, find, option_copied, option_map};
+ghost use Rattle.std.specs.Prelude.{◌≡◌, ◌==◌, IfOk, find, option_copied, option_map, List, Ok};
 ghost use Rattle.prof_bytes.specs.Outcome.{GivesAt};
-ghost use Rattle.prof_bytes.specs.Fields.{bytes_from};
+ghost use Rattle.prof_bytes.specs.Fields.{bytes_from, Input};
+ghost use Rattle.dwarf_forms.specs.declared.declaration.BadTable.{BadTable};
+ghost use Rattle.dwarf_forms.specs.declared.declaration.Spec.{Spec};
+ghost use Rattle.dwarf_forms.specs.Abbreviations.{attributes_from};
 ghost use Rattle.dwarf_forms.specs.Sizes.{passed_by};
 ghost use Rattle.dwarf_forms.specs.Values.{form_value, value_from};
 ghost use Rattle.dwarf_info.specs.Values.{passed_from, values_from, value_of, entry_values};
 
 use crate::fault::InfoFault;
-use dwarf_forms::{Declarations, FormFault, Spec, Specs, Value, read_form};
+use dwarf_forms::{BadTable, Declarations, FormFault, Spec, Specs, Value, read_form};
 use prof_bytes::Reader;
 
 fn one_value<'a, F: Copy>(
@@ -105,6 +108,31 @@ fn declared_value<'a>(
         Some(_) => value_by(reader, specs, attribute),
         None => None,
     }
+}
+
+/// The first value of an attribute among those of a declaration whose attributes are read from `.debug_abbrev`.
+pub(crate) fn value_beside<'a>(
+    reader: &mut Reader<'a, FormFault>,
+    specs: &mut Reader<'_, BadTable>,
+    attribute: u64,
+) -> Option<Value<'a>>
+    ensures { (declared : List Spec) (end : Input BadTable) → attributes_from specs.old ≡ Ok (declared, end)
+        → option_map form_value result ≡ value_of attribute (values_from declared reader.old) }
+{
+    let room = specs.left();
+    for _ in 0..room {
+        let spec = match dwarf_forms::attribute(specs) {
+            Ok(Some(spec)) => spec,
+            Ok(None) => return None,
+            Err(_) => return None,
+        };
+        match one_value(reader, &spec, FormFault::Unknown) {
+            Ok(value) if spec.attribute == attribute => return Some(value),
+            Ok(_) => {}
+            Err(_) => return None,
+        }
+    }
+    None
 }
 
 /// The first value of an attribute of the entry that begins here.

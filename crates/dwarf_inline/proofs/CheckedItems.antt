@@ -1,12 +1,16 @@
 -- The checks of items, gone through one by one.
-use Rattle.std.proofs.Common.{◌≡◌, ℕ, ◌+◌, ◌<◌, ◌≤◌, List, [], ◌∷◌, ◌++◌, length, take, drop, map, get_or, Result, Ok, sym, ap, ◌∙◌, subst}
-use Rattle.std.proofs.lemmas.List.{drop_more, drop_all, map_more}
+use Rattle.std.proofs.Common.{◌≡◌, ℕ, ◌+◌, ◌<◌, ◌≤◌, Bool, true, false, refl, List, [], ◌∷◌, ◌++◌, length, take, drop, map, get_or, Result, Ok, sym, ap, ◌∙◌, subst}
+use Rattle.std.specs.List.{flat_map}
+use Rattle.std.proofs.lemmas.List.{append-nil, drop_more, drop_all, map_more, take_more}
+use Rattle.std.proofs.lemmas.Grind.{flat_map-append}
 use Rattle.prof_bytes.specs.declared.fail.Fail.{Fail}
 use Rattle.prof_bytes.specs.declared.fail.Fail.TheVariants.{Fault, Memory}
 use Rattle.prof_bytes.specs.Outcome.{FailsBy, ◌>>=◌}
 use Rattle.dwarf_info.specs.Units.{DebugInfo}
 use Rattle.dwarf_inline.specs.declared.fault.StructureFault.{StructureFault}
-use Rattle.dwarf_inline.specs.Links.{Indexed, identity}
+use Rattle.dwarf_info.specs.Subroutines.{Indexed, is_inlined, subroutine_entry}
+use Rattle.dwarf_inline.specs.Nesting.{inlined_levels}
+use Rattle.dwarf_inline.specs.private.Levels.{checked_entry}
 use Rattle.dwarf_inline.specs.Structure.{checked_item, checked_items}
 
 abbrev Checked : Type 0
@@ -36,8 +40,23 @@ fails_at info items k d fail total lt at so_far =
     subst (λ (r : Checked). FailsBy fail r) (sym (next info items k d lt) ∙ so_far)
     (fails_then fail (checked_item info (get_or items k d)) (λ u. checked_items info (drop (k + 1) items)) at)
 
-pub identity_more : (info : DebugInfo) (items : List Indexed) (k : ℕ) (d : Indexed) (x : ℕ) (old new : List ℕ) → k < length items → x ≡ identity info (get_or items k d).0
-    → old ≡ map (λ e. identity info e.0) (take k items) → new ≡ old ++ x ∷ [] → new ≡ map (λ e. identity info e.0) (take (k + 1) items)
-identity_more info items k d x old new lt is was push =
-    push ∙ ap (λ xs. xs ++ x ∷ []) was ∙ ap (λ y. map (λ (e : Indexed). identity info e.0) (take k items) ++ y ∷ []) is
-    ∙ sym (map_more (λ (e : Indexed). identity info e.0) items k d lt)
+-- an item by its levels
+levels_told : (info : DebugInfo) (e : Indexed) (levels : ℕ) (b : Bool) → is_inlined e.1 ≡ b → (b ≡ true → inlined_levels info e ≡ levels)
+    → checked_entry info (subroutine_entry e) levels ≡ checked_item info e
+levels_told info e levels true is told = ap (checked_entry info (subroutine_entry e)) (sym (told refl))
+levels_told info e levels false is told = rw is refl
+
+pub entry_checked : (info : DebugInfo) (e : Indexed) (levels : ℕ) → (is_inlined e.1 ≡ true → inlined_levels info e ≡ levels)
+    → checked_entry info (subroutine_entry e) levels ≡ checked_item info e
+entry_checked info e levels told = levels_told info e levels (is_inlined e.1) refl told
+
+pub one_more : {Y : Type 0} (f : Indexed → Y) (items : List Indexed) (k : ℕ) (d : Indexed) (x : Y) (old new : List Y) → k < length items → x ≡ f (get_or items k d)
+    → old ≡ map f (take k items) → new ≡ old ++ x ∷ [] → new ≡ map f (take (k + 1) items)
+one_more f items k d x old new lt is was push =
+    push ∙ ap (λ xs. xs ++ x ∷ []) was ∙ ap (λ y. map f (take k items) ++ y ∷ []) is ∙ sym (map_more f items k d lt)
+
+pub some_more : {Y : Type 0} (f : Indexed → List Y) (items : List Indexed) (k : ℕ) (d : Indexed) (xs old new : List Y) → k < length items → xs ≡ f (get_or items k d)
+    → old ≡ flat_map f (take k items) → new ≡ old ++ xs → new ≡ flat_map f (take (k + 1) items)
+some_more f items k d xs old new lt is was push =
+    push ∙ ap (λ ys. ys ++ xs) was ∙ ap (λ ys. flat_map f (take k items) ++ ys) (is ∙ sym (append-nil (f (get_or items k d))))
+    ∙ sym (ap (flat_map f) (take_more items k d lt) ∙ flat_map-append f (take k items) (get_or items k d ∷ []))

@@ -7,8 +7,6 @@ use Rattle.std.proofs.lemmas.List.{get_or-drop}
 use Rattle.std.proofs.lemmas.List.Folds.{length-prefix_len}
 use Rattle.std.proofs.lemmas.List.Sums.{prefix_len-le-length, prefix_len_passes, prefix_len_stops}
 use Rattle.std.proofs.lemmas.Bool.{cases_lt, ltb-true, lt-ltb}
-use Rattle.dwarf_info.specs.declared.entry.InfoEntry.{InfoEntry}
-use Rattle.dwarf_inline.specs.Nesting.{is_deeper}
 use Rattle.dwarf_inline.specs.private.Ends.{entry_end, AreEndsFrom}
 use Rattle.dwarf_inline.proofs.Lists.{any_default}
 
@@ -22,80 +20,80 @@ prefix_reaches p xs n d le all =
       | inr ge ↦ ge
     ]
 
-abbrev reach : List InfoEntry → ℕ → ℕ → ℕ
-reach entries i depth = prefix_len (is_deeper depth) (drop (i + 1) entries)
+abbrev reach : List ℕ → ℕ → ℕ → ℕ
+reach depths i depth = prefix_len (nat_lt depth) (drop (i + 1) depths)
 
-end_is : (entries : List InfoEntry) (i depth : ℕ) → entry_end entries i depth ≡ i + 1 + reach entries i depth
+end_is : (depths : List ℕ) (i depth : ℕ) → entry_end depths i depth ≡ i + 1 + reach depths i depth
 unfolding entry_end
-end_is entries i depth = ap (λ (n : ℕ). i + 1 + n) (length-prefix_len (is_deeper depth) (drop (i + 1) entries))
+end_is depths i depth = ap (λ (n : ℕ). i + 1 + n) (length-prefix_len (nat_lt depth) (drop (i + 1) depths))
 
-pub end_behind : (entries : List InfoEntry) (i depth : ℕ) → i < entry_end entries i depth
-end_behind entries i depth = omega (arith, end_is entries i depth)
+pub end_behind : (depths : List ℕ) (i depth : ℕ) → i < entry_end depths i depth
+end_behind depths i depth = omega (arith, end_is depths i depth)
 
-pub end_within : (entries : List InfoEntry) (i depth : ℕ) → i < length entries → entry_end entries i depth ≤ length entries
-end_within entries i depth lt =
-    omega (arith, end_is entries i depth, prefix_len-le-length (is_deeper depth) (drop (i + 1) entries), length-drop (i + 1) entries)
+pub end_within : (depths : List ℕ) (i depth : ℕ) → i < length depths → entry_end depths i depth ≤ length depths
+end_within depths i depth lt =
+    omega (arith, end_is depths i depth, prefix_len-le-length (nat_lt depth) (drop (i + 1) depths), length-drop (i + 1) depths)
 
--- the entries up to the end are deeper
-pub deeper_within : (entries : List InfoEntry) (i depth j : ℕ) (d : InfoEntry) → i < j → j < entry_end entries i depth → depth < (get_or entries j d).depth
-deeper_within entries i depth j d lt within =
+-- the depths up to the end are deeper
+pub deeper_within : (depths : List ℕ) (i depth j : ℕ) (d : ℕ) → i < j → j < entry_end depths i depth → depth < (get_or depths j d)
+deeper_within depths i depth j d lt within =
     let k : ℕ = j - (i + 1) in
-    let near : k < reach entries i depth = omega (arith, end_is entries i depth) in
-    let deep : nat_lt depth (get_or (drop (i + 1) entries) k d).depth ≡ true = prefix_len_passes (is_deeper depth) (drop (i + 1) entries) k d near in
+    let near : k < reach depths i depth = omega (arith, end_is depths i depth) in
+    let deep : nat_lt depth (get_or (drop (i + 1) depths) k d) ≡ true = prefix_len_passes (nat_lt depth) (drop (i + 1) depths) k d near in
     let at : i + 1 + k ≡ j = omega arith in
-    let there : get_or (drop (i + 1) entries) k d ≡ get_or entries j d = get_or-drop (i + 1) entries k d ∙ ap (λ (n : ℕ). get_or entries n d) at in
-    ltb-true _ _ (sym (ap (λ (e : InfoEntry). nat_lt depth e.depth) there) ∙ deep)
+    let there : get_or (drop (i + 1) depths) k d ≡ get_or depths j d = get_or-drop (i + 1) depths k d ∙ ap (λ (n : ℕ). get_or depths n d) at in
+    ltb-true _ _ (sym (ap (λ (e : ℕ). nat_lt depth e) there) ∙ deep)
 
--- the end lies no nearer than an index up to which the entries are deeper
-pub end_reaches : (entries : List InfoEntry) (i depth j : ℕ) (d : InfoEntry) → i < j → j ≤ length entries
-    → ((k : ℕ) → i < k → k < j → depth < (get_or entries k d).depth) → j ≤ entry_end entries i depth
-end_reaches entries i depth j d lt le all =
+-- the end lies no nearer than an index up to which the depths are deeper
+pub end_reaches : (depths : List ℕ) (i depth j : ℕ) (d : ℕ) → i < j → j ≤ length depths
+    → ((k : ℕ) → i < k → k < j → depth < (get_or depths k d)) → j ≤ entry_end depths i depth
+end_reaches depths i depth j d lt le all =
     let n : ℕ = j - (i + 1) in
-    let short : n ≤ length (drop (i + 1) entries) = omega (arith, length-drop (i + 1) entries) in
-    let far : n ≤ reach entries i depth =
-    prefix_reaches (is_deeper depth) (drop (i + 1) entries) n d short
-    (λ k near. ap (λ (e : InfoEntry). nat_lt depth e.depth) (get_or-drop (i + 1) entries k d) ∙ lt-ltb _ _ (all (i + 1 + k) (omega arith) (omega arith))) in
-    omega (arith, end_is entries i depth)
+    let short : n ≤ length (drop (i + 1) depths) = omega (arith, length-drop (i + 1) depths) in
+    let far : n ≤ reach depths i depth =
+    prefix_reaches (nat_lt depth) (drop (i + 1) depths) n d short
+    (λ k near. ap (λ (e : ℕ). nat_lt depth e) (get_or-drop (i + 1) depths k d) ∙ lt-ltb _ _ (all (i + 1 + k) (omega arith) (omega arith))) in
+    omega (arith, end_is depths i depth)
 
--- after a deeper entry and its descendants the entries up to the end go on
-jumps : (entries : List InfoEntry) (i depth j : ℕ) (d : InfoEntry) → i < j → j < length entries → depth < (get_or entries j d).depth
-    → j ≤ entry_end entries i depth → entry_end entries j (get_or entries j d).depth ≤ entry_end entries i depth
-jumps entries i depth j d lt there deep covered =
-    let inner : ℕ = (get_or entries j d).depth in
-    end_reaches entries i depth (entry_end entries j inner) d
-    (omega (arith, end_behind entries j inner)) (end_within entries j inner there)
+-- after a deeper entry and its descendants the depths up to the end go on
+jumps : (depths : List ℕ) (i depth j : ℕ) (d : ℕ) → i < j → j < length depths → depth < (get_or depths j d)
+    → j ≤ entry_end depths i depth → entry_end depths j (get_or depths j d) ≤ entry_end depths i depth
+jumps depths i depth j d lt there deep covered =
+    let inner : ℕ = (get_or depths j d) in
+    end_reaches depths i depth (entry_end depths j inner) d
+    (omega (arith, end_behind depths j inner)) (end_within depths j inner there)
     (λ k after before. elim (cases_lt k j) [
-      | inl nearer ↦ deeper_within entries i depth k d after (omega arith)
+      | inl nearer ↦ deeper_within depths i depth k d after (omega arith)
       | inr ge ↦ elim (cases_lt j k) [
-        | inl farther ↦ let more : inner < (get_or entries k d).depth = deeper_within entries j inner k d farther before in omega arith
+        | inl farther ↦ let more : inner < (get_or depths k d) = deeper_within depths j inner k d farther before in omega arith
         | inr le ↦
             let same : j ≡ k = omega arith in
-            subst (λ (n : ℕ). depth < (get_or entries n d).depth) same deep
+            subst (λ (n : ℕ). depth < (get_or depths n d)) same deep
       ]
     ])
 
-pub jump_step : (entries : List InfoEntry) (ends : List ℕ) (at depth end : ℕ) (d : InfoEntry) → AreEndsFrom entries (at + 1) ends → at < end → end < length entries
-    → depth < (get_or entries end d).depth → end ≤ entry_end entries at depth
-    → (end < get_or ends end 0) × (get_or ends end 0 ≤ length entries) × (get_or ends end 0 ≤ entry_end entries at depth)
-jump_step entries ends at depth end d are behind within deep covered =
-    let is : get_or ends end 0 ≡ entry_end entries end (get_or entries end d).depth = are.are end d (omega arith) within in
-    let far : entry_end entries end (get_or entries end d).depth ≤ entry_end entries at depth = jumps entries at depth end d behind within deep covered in
-    (omega (arith, end_behind entries end (get_or entries end d).depth), omega (arith, end_within entries end (get_or entries end d).depth within), omega arith)
+pub jump_step : (depths : List ℕ) (ends : List ℕ) (at depth end : ℕ) (d : ℕ) → AreEndsFrom depths (at + 1) ends → at < end → end < length depths
+    → depth < (get_or depths end d) → end ≤ entry_end depths at depth
+    → (end < get_or ends end 0) × (get_or ends end 0 ≤ length depths) × (get_or ends end 0 ≤ entry_end depths at depth)
+jump_step depths ends at depth end d are behind within deep covered =
+    let is : get_or ends end 0 ≡ entry_end depths end (get_or depths end d) = are.are end d (omega arith) within in
+    let far : entry_end depths end (get_or depths end d) ≤ entry_end depths at depth = jumps depths at depth end d behind within deep covered in
+    (omega (arith, end_behind depths end (get_or depths end d)), omega (arith, end_within depths end (get_or depths end d) within), omega arith)
 
-pub stops_at_end : (entries : List InfoEntry) (i depth j : ℕ) → i < length entries → length entries ≤ j → j ≤ entry_end entries i depth → j ≡ entry_end entries i depth
-stops_at_end entries i depth j lt past covered = omega (arith, end_within entries i depth lt)
+pub stops_at_end : (depths : List ℕ) (i depth j : ℕ) → i < length depths → length depths ≤ j → j ≤ entry_end depths i depth → j ≡ entry_end depths i depth
+stops_at_end depths i depth j lt past covered = omega (arith, end_within depths i depth lt)
 
-pub stops_at : (entries : List InfoEntry) (i depth j : ℕ) (d : InfoEntry) → i < j → (get_or entries j d).depth ≤ depth → j ≤ entry_end entries i depth → j ≡ entry_end entries i depth
-stops_at entries i depth j d lt flat covered =
-    elim (cases_lt j (entry_end entries i depth)) [
-      | inl within ↦ let deep : depth < (get_or entries j d).depth = deeper_within entries i depth j d lt within in absurd (omega arith)
+pub stops_at : (depths : List ℕ) (i depth j : ℕ) (d : ℕ) → i < j → (get_or depths j d) ≤ depth → j ≤ entry_end depths i depth → j ≡ entry_end depths i depth
+stops_at depths i depth j d lt flat covered =
+    elim (cases_lt j (entry_end depths i depth)) [
+      | inl within ↦ let deep : depth < (get_or depths j d) = deeper_within depths i depth j d lt within in absurd (omega arith)
       | inr past ↦ omega arith
     ]
 
 -- one end more
-pub one_more_end : (entries : List InfoEntry) (ends : List ℕ) (start at end : ℕ) (d : InfoEntry) → start ≡ at + 1 → AreEndsFrom entries start ends → at < length entries
-    → end ≡ entry_end entries at (get_or entries at d).depth → AreEndsFrom entries at (set ends at end)
-one_more_end entries ends start at end d next are lt is = record {
+pub one_more_end : (depths : List ℕ) (ends : List ℕ) (start at end : ℕ) (d : ℕ) → start ≡ at + 1 → AreEndsFrom depths start ends → at < length depths
+    → end ≡ entry_end depths at (get_or depths at d) → AreEndsFrom depths at (set ends at end)
+one_more_end depths ends start at end d next are lt is = record {
   long = length-set ends at end ∙ are.long;
   are = λ i e from there. elim (cases_lt at i) [
     | inl later ↦
@@ -104,8 +102,8 @@ one_more_end entries ends start at end d next are lt is = record {
     | inr le ↦
         let same : i ≡ at = omega arith in
         let room : at < length ends = rw (are.long) lt in
-        let here : get_or (set ends at end) at 0 ≡ entry_end entries at (get_or entries at e).depth =
-        get_or-set_same ends at end 0 room ∙ is ∙ ap (λ (x : InfoEntry). entry_end entries at x.depth) (any_default entries at d e lt) in
-        subst (λ (n : ℕ). get_or (set ends at end) n 0 ≡ entry_end entries n (get_or entries n e).depth) (sym same) here
+        let here : get_or (set ends at end) at 0 ≡ entry_end depths at (get_or depths at e) =
+        get_or-set_same ends at end 0 room ∙ is ∙ ap (λ (x : ℕ). entry_end depths at x) (any_default depths at d e lt) in
+        subst (λ (n : ℕ). get_or (set ends at end) n 0 ≡ entry_end depths n (get_or depths n e)) (sym same) here
   ];
 }

@@ -1,8 +1,10 @@
 -- The items of debug information are in the order of their indices.
 use Rattle.std.proofs.Common.{◌≡◌, ℕ, ◌+◌, ◌<◌, ◌≤◌, Bool, true, cond, List, [], ◌∷◌, ◌++◌, length, take, drop, map, get_or, inl, inr, refl, sym, ap, ◌∙◌, subst, arith, zero-add, length-take, length-drop}
 use Rattle.std.specs.Prelude.{All, AllPairs, filter, count_by, sum_by, slice_get, Some, nat_lt}
-use Rattle.std.specs.List.{enumerate_from, flat_map}
-use Rattle.std.proofs.lemmas.List.{map_more, get_or-take, get_or-drop, take-append-drop, append-nil, take-map}
+use Rattle.std.specs.List.{enumerate_from, flat_map, prefix_len, take_while}
+use Rattle.std.proofs.lemmas.List.Folds.{length-prefix_len}
+use Rattle.std.proofs.Math.ListN.{get_or-map}
+use Rattle.std.proofs.lemmas.List.{get_or-take, get_or-drop, take-append-drop, append-nil, take-map, drop-map, length-map, take_all}
 use Rattle.std.proofs.lemmas.List.Elements.{All-filter, All-get_or, filter_passes, filter-append}
 use Rattle.std.proofs.lemmas.List.Kept.{AllPairs-filter}
 use Rattle.std.proofs.lemmas.List.FromFn.{length-enumerate_from, get_or-enumerate_from}
@@ -13,10 +15,10 @@ use Rattle.std.proofs.lemmas.Bool.{lt-ltb, le-ltb, cases_lt}
 use Rattle.elf_image.specs.Image.{ProgramImage}
 use Rattle.dwarf_info.specs.declared.entry.InfoEntry.{InfoEntry}
 use Rattle.dwarf_info.specs.Units.{DebugInfo}
-use Rattle.dwarf_inline.specs.Links.{Indexed, indexed, is_item, item_entries}
+use Rattle.dwarf_info.specs.Subroutines.{Indexed, indexed, is_item, item_entries}
 use Rattle.dwarf_inline.specs.Nesting.{end_of, items_before, item_after}
 use Rattle.dwarf_inline.specs.Structure.{counted_ranges, ranges_before}
-use Rattle.dwarf_inline.specs.private.Ends.{entry_end, AreEndsFrom, AreItemsBefore}
+use Rattle.dwarf_inline.specs.private.Ends.{depths_of, entry_end, AreEndsFrom}
 use Rattle.dwarf_inline.proofs.Lists.{any_default, filter_all, filter_none, filter_swap, count_map, count_grows}
 use Rattle.dwarf_inline.proofs.EntryEnds.{end_behind, end_within}
 
@@ -74,57 +76,46 @@ pub item_within : (info : DebugInfo) (items : List Indexed) (k : ℕ) (d : Index
     → (get_or items k d).0 < length info.entries
 item_within info items k d same lt = slice_get_within info.entries _ _ (item_there info items k d same lt)
 
-pub end_there : (info : DebugInfo) (items : List Indexed) (ends : List ℕ) (k : ℕ) (d : Indexed) → items ≡ item_entries info → AreEndsFrom info.entries 0 ends → k < length items
-    → (get_or items k d).0 < length ends
-end_there info items ends k d same are lt = let long : length ends ≡ length info.entries = are.long in omega (arith, item_within info items k d same lt)
+depths_long : (info : DebugInfo) → length (depths_of info) ≡ length info.entries
+depths_long info = length-map info.entries (λ (e : InfoEntry). e.depth)
 
-end_of_is : (info : DebugInfo) (e : Indexed) → end_of info e ≡ entry_end info.entries e.0 e.1.depth
+pub end_there : (info : DebugInfo) (items : List Indexed) (ends : List ℕ) (k : ℕ) (d : Indexed) → items ≡ item_entries info → AreEndsFrom (depths_of info) 0 ends → k < length items
+    → (get_or items k d).0 < length ends
+end_there info items ends k d same are lt =
+    let long : length ends ≡ length (depths_of info) = are.long in
+    omega (arith, depths_long info, item_within info items k d same lt)
+
+prefix_map : {X Y : Type 0} (p : Y → Bool) (f : X → Y) (xs : List X) → prefix_len p (map f xs) ≡ prefix_len (λ x. p (f x)) xs
+prefix_map p f [] = refl
+prefix_map p f (x ∷ xs) = ap (λ (n : ℕ). cond (p (f x)) (1 + n) 0) (prefix_map p f xs)
+
+far_as : {X Y : Type 0} (p : Y → Bool) (f : X → Y) (xs : List X) → length (take_while p (map f xs)) ≡ length (take_while (λ x. p (f x)) xs)
+far_as p f xs = length-prefix_len p (map f xs) ∙ prefix_map p f xs ∙ sym (length-prefix_len (λ x. p (f x)) xs)
+
+end_of_is : (info : DebugInfo) (e : Indexed) → end_of info e ≡ entry_end (depths_of info) e.0 e.1.depth
 unfolding entry_end
-end_of_is info e = refl
+end_of_is info e =
+    ap (λ (n : ℕ). e.0 + 1 + n) (sym (ap (λ (ds : List ℕ). length (take_while (nat_lt e.1.depth) ds)) (drop-map (λ (d : InfoEntry). d.depth) (e.0 + 1) info.entries)
+    ∙ far_as (nat_lt e.1.depth) (λ (d : InfoEntry). d.depth) (drop (e.0 + 1) info.entries)))
 
 -- its end
-pub item_end : (info : DebugInfo) (items : List Indexed) (ends : List ℕ) (k : ℕ) (d : Indexed) → items ≡ item_entries info → AreEndsFrom info.entries 0 ends → k < length items
+pub item_end : (info : DebugInfo) (items : List Indexed) (ends : List ℕ) (k : ℕ) (d : Indexed) → items ≡ item_entries info → AreEndsFrom (depths_of info) 0 ends → k < length items
     → get_or ends (get_or items k d).0 0 ≡ end_of info (get_or items k d)
 item_end info items ends k d same are lt =
     let item : Indexed = get_or items k d in
     let is : get_or info.entries item.0 item.1 ≡ item.1 = get_or_from_slice_get info.entries item.0 item.1 item.1 (item_there info items k d same lt) in
-    are.are item.0 item.1 (omega arith) (item_within info items k d same lt)
-    ∙ ap (λ (e : InfoEntry). entry_end info.entries item.0 e.depth) is ∙ sym (end_of_is info item)
+    are.are item.0 item.1.depth (omega arith) (omega (arith, depths_long info, item_within info items k d same lt))
+    ∙ ap (entry_end (depths_of info) item.0) (get_or-map (λ (e : InfoEntry). e.depth) info.entries item.0 item.1 ∙ ap (λ (e : InfoEntry). e.depth) is) ∙ sym (end_of_is info item)
 
 pub item_end_within : (info : DebugInfo) (items : List Indexed) (k : ℕ) (d : Indexed) → items ≡ item_entries info → k < length items
     → end_of info (get_or items k d) ≤ length info.entries
 item_end_within info items k d same lt =
     let item : Indexed = get_or items k d in
-    omega (arith, end_of_is info item, end_within info.entries item.0 item.1.depth (item_within info items k d same lt))
+    let here : item.0 < length (depths_of info) = omega (arith, depths_long info, item_within info items k d same lt) in
+    omega (arith, end_of_is info item, depths_long info, end_within (depths_of info) item.0 item.1.depth here)
 
 pub item_end_behind : (info : DebugInfo) (e : Indexed) → e.0 < end_of info e
-item_end_behind info e = omega (arith, end_of_is info e, end_behind info.entries e.0 e.1.depth)
-
--- what counts the items before it
-pub item_count : (info : DebugInfo) (items : List Indexed) (ends counts : List ℕ) (k : ℕ) (d : Indexed) → items ≡ item_entries info → AreEndsFrom info.entries 0 ends
-    → AreItemsBefore info.entries counts → k < length items
-    → (get_or ends (get_or items k d).0 0 < length counts) × (get_or counts (get_or ends (get_or items k d).0 0) 0 ≡ item_after info (get_or items k d))
-item_count info items ends counts k d same are before lt =
-    let end : get_or ends (get_or items k d).0 0 ≡ end_of info (get_or items k d) = item_end info items ends k d same are lt in
-    let within : end_of info (get_or items k d) ≤ length info.entries = item_end_within info items k d same lt in
-    let long : length counts ≡ length info.entries + 1 = before.long in
-    (omega arith, ap (λ (n : ℕ). get_or counts n 0) end ∙ before.are (end_of info (get_or items k d)) within)
-
-pub count_there : (info : DebugInfo) (items : List Indexed) (ends counts : List ℕ) (n k : ℕ) (d : Indexed) → items ≡ item_entries info → AreEndsFrom info.entries 0 ends
-    → AreItemsBefore info.entries counts → n ≡ length counts → k < length items → get_or ends (get_or items k d).0 0 < n
-count_there info items ends counts n k d same are before long lt = omega (arith, (item_count info items ends counts k d same are before lt).0)
-
--- one number more of an item after its descendants
-pub after_more : (info : DebugInfo) (items : List Indexed) (ends counts : List ℕ) (k : ℕ) (d : Indexed) (x : ℕ) (old new : List ℕ) → items ≡ item_entries info
-    → AreEndsFrom info.entries 0 ends → AreItemsBefore info.entries counts → k < length items
-    → x ≡ get_or counts (get_or ends (get_or items k d).0 0) x → old ≡ map (item_after info) (take k items) → new ≡ old ++ x ∷ []
-    → new ≡ map (item_after info) (take (k + 1) items)
-after_more info items ends counts k d x old new same are before lt is was push =
-    let count = item_count info items ends counts k d same are before lt in
-    let read : x ≡ item_after info (get_or items k d) = is ∙ any_default counts (get_or ends (get_or items k d).0 0) x 0 count.0 ∙ count.1 in
-    push ∙ ap (λ xs. xs ++ x ∷ []) was
-    ∙ ap (λ y. map (item_after info) (take k items) ++ y ∷ []) read
-    ∙ sym (map_more (item_after info) items k d lt)
+item_end_behind info e = omega (arith, end_of_is info e, end_behind (depths_of info) e.0 e.1.depth)
 
 -- ---- the ranges of the items before one
 
@@ -150,6 +141,26 @@ counted info i =
     ap (λ (xs : List InfoEntry). count_by is_item (take i xs)) (sym (entries_are 0 info.entries))
     ∙ ap (count_by is_item) (take-map (λ (e : Indexed). e.1) i (indexed info))
     ∙ count_map is_item (λ (e : Indexed). e.1) (take i (indexed info)) ∙ sym (length-filter passes (take i (indexed info)))
+
+-- the entries before an index are those with lower indices
+pub taken_low : (info : DebugInfo) (i : ℕ) (d : Indexed) → i ≤ length info.entries → take i (indexed info) ≡ filter (λ e. nat_lt e.0 i) (indexed info)
+taken_low info i d le =
+    let long : length (indexed info) ≡ length info.entries = length-enumerate_from 0 info.entries in
+    elim (cases_lt i (length info.entries)) [
+      | inl lt ↦
+          let there : i < length (indexed info) = omega arith in
+          let own : (get_or (indexed info) i d).0 ≡ i = ap (λ (e : Indexed). e.0) (numbered info.entries i d there) in
+          sym (lower_first (indexed info) i d (all_ascending info.entries) there) ∙ ap (λ (n : ℕ). filter (λ e. nat_lt e.0 n) (indexed info)) own
+      | inr ge ↦
+          take_all i (indexed info) (omega arith)
+          ∙ sym (filter_all (λ e. nat_lt e.0 i) (indexed info) (λ k e within.
+          lt-ltb _ _ (omega (arith, ap (λ (f : Indexed). f.0) (numbered info.entries k e within)))))
+    ]
+
+-- as many items are before an index as have lower ones
+pub items_below : (info : DebugInfo) (i : ℕ) (d : Indexed) → i ≤ length info.entries → items_before info i ≡ length (filter (λ e. nat_lt e.0 i) (item_entries info))
+items_below info i d le =
+    counted info i ∙ ap (λ es. length (filter passes es)) (taken_low info i d le) ∙ ap length (filter_swap passes (λ e. nat_lt e.0 i) (indexed info))
 
 -- as many items are before an item as its number says
 pub number_is : (info : DebugInfo) (k : ℕ) (d : Indexed) → k < length (item_entries info) → items_before info (get_or (item_entries info) k d).0 ≡ k

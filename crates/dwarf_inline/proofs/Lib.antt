@@ -1,10 +1,12 @@
 pub mod Lists
 pub mod EntryEnds
 pub mod Linked
-pub mod ItemLists
 pub mod Items
+pub mod KeptEntries
+pub mod DetailPlaces
+pub mod NameLists
 pub mod OpenLevels
 pub mod CheckedItems
-pub mod FirstNumbers
 pub mod Whole
 pub mod Named
+pub mod KeptLists

@@ -1,15 +1,10 @@
 -- The name of the first item with an identity.
-use Rattle.std.proofs.Common.{◌≡◌, ◌==◌, ℕ, suc, ◌+◌, ◌<◌, ◌≤◌, Bool, true, false, cond, List, [], ◌∷◌, length, get_or, Option, Some, None, refl, sym, ap, ◌∙◌, arith}
-use Rattle.std.specs.Prelude.{find, zip, slice_get, option_map, unwrap_or, nat_lt}
+use Rattle.std.proofs.Common.{◌≡◌, ◌==◌, ℕ, suc, ◌+◌, Bool, true, false, List, [], ◌∷◌, length, Option, Some, None, refl, sym, ap, ◌∙◌, arith}
+use Rattle.std.specs.Prelude.{find, zip, slice_get, option_map, unwrap_or}
 use Rattle.std.specs.List.{position_or_len}
 use Rattle.std.specs.Option.{option_map_or}
-use Rattle.std.specs.Ordering.{nat_cmp}
-use Rattle.std.specs.BTreeMap.{get}
-use Rattle.std.proofs.lemmas.Option.{cond_some, slice_get-get_or, slice_get_past}
-use Rattle.std.proofs.lemmas.Bool.{ltb-true, ltb-false}
 use Rattle.dwarf_inline.specs.Links.{unnamed}
 use Rattle.dwarf_inline.specs.Structure.{ProgramStructure, proc_name}
-use Rattle.dwarf_inline.specs.private.Numbers.{Numbers, IsIndexed}
 
 step : {X Y : Type 0} (p : X → Bool) (x : X) (xs : List X) (y : Y) (ys : List Y) (b : Bool) → p x ≡ b
     → option_map (λ i. i.1) (find (λ i. p i.0) (zip xs ys)) ≡ slice_get ys (position_or_len p xs)
@@ -33,27 +28,12 @@ or_else f (Some x) d = refl
 abbrev at : ProgramStructure → ℕ → ℕ
 at s offset = position_or_len (λ i. i.identity == offset) s.items
 
-name_at : (s : ProgramStructure) (numbers : Numbers) (offset : ℕ) → IsIndexed s numbers → proc_name s offset ≡ unwrap_or (slice_get s.names (at s offset)) unnamed
-name_at s numbers offset is =
+pub named_at : (s : ProgramStructure) (offset : ℕ) → length s.names ≡ length s.items → proc_name s offset ≡ unwrap_or (slice_get s.names (at s offset)) unnamed
+named_at s offset named =
     or_else (λ i. i.1) (find (λ i. i.0.identity == offset) (zip s.items s.names)) unnamed
-    ∙ ap (λ (o : Option (List ℕ)). unwrap_or o unnamed) (find_zip (λ i. i.identity == offset) s.items s.names is.whole.named)
+    ∙ ap (λ (o : Option (List ℕ)). unwrap_or o unnamed) (find_zip (λ i. i.identity == offset) s.items s.names named)
 
-none_is : (b : Bool) (x : ℕ) → cond b (Some x) None ≡ None → b ≡ false
-none_is true x e = absurd cc
-none_is false x e = refl
-
-pub named_by : (s : ProgramStructure) (numbers : Numbers) (offset k : ℕ) (name : List ℕ) → IsIndexed s numbers → get nat_cmp numbers offset ≡ Some k → name ≡ get_or s.names k name
-    → name ≡ proc_name s offset
-named_by s numbers offset k name is there own =
-    let found = cond_some (nat_lt (at s offset) (length s.items)) (at s offset) k (sym (is.found offset) ∙ there) in
-    let within : at s offset < length s.items = ltb-true (at s offset) (length s.items) found.0 in
-    let same : length s.names ≡ length s.items = is.whole.named in
-    let read : slice_get s.names (at s offset) ≡ Some (get_or s.names (at s offset) name) = slice_get-get_or s.names (at s offset) name (omega arith) in
-    own ∙ ap (λ (n : ℕ). get_or s.names n name) (sym found.1)
-    ∙ ap (λ (o : Option (List ℕ)). unwrap_or o unnamed) (sym read) ∙ sym (name_at s numbers offset is)
-
-pub not_named : (s : ProgramStructure) (numbers : Numbers) (offset : ℕ) → IsIndexed s numbers → get nat_cmp numbers offset ≡ None → unnamed ≡ proc_name s offset
-not_named s numbers offset is there =
-    let past : length s.items ≤ at s offset = ltb-false (at s offset) (length s.items) (none_is (nat_lt (at s offset) (length s.items)) (at s offset) (sym (is.found offset) ∙ there)) in
-    let same : length s.names ≡ length s.items = is.whole.named in
-    ap (λ (o : Option (List ℕ)). unwrap_or o unnamed) (sym (slice_get_past s.names (at s offset) (omega arith))) ∙ sym (name_at s numbers offset is)
+-- the name that was found, or the name of what has none
+pub told_name : (o : Option (List ℕ)) (found : Option (ℕ × List ℕ)) (name : List ℕ) → o ≡ option_map (λ p. p.1) found → name ≡ unwrap_or o unnamed
+    → name ≡ option_map_or (λ p. p.1) found unnamed
+told_name o found name same is = is ∙ ap (λ (r : Option (List ℕ)). unwrap_or r unnamed) same ∙ sym (or_else (λ p. p.1) found unnamed)

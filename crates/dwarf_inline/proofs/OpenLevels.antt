@@ -6,11 +6,15 @@ use Rattle.std.proofs.lemmas.List.Sums.{length-filter, sum_by-take-drop, sum_by-
 use Rattle.std.proofs.lemmas.Bool.{lt-ltb, le-ltb, ltb-true, ne_eqb, eq-eqb, or_right}
 use Rattle.prof_bytes.proofs.Tests.{and_false}
 use Rattle.dwarf_info.specs.Units.{DebugInfo}
-use Rattle.dwarf_inline.specs.Links.{Indexed, indexed, is_item, is_inlined, item_entries}
+use Rattle.dwarf_info.specs.Subroutines.{Indexed, indexed, is_item, is_inlined, item_entries, subroutine_entry}
 use Rattle.dwarf_inline.specs.Nesting.{end_of, is_below, inlined_levels}
-use Rattle.dwarf_inline.specs.private.Levels.{open_at, opened, is_open, AreOpen}
+use Rattle.dwarf_info.specs.declared.outline.SubroutineEntry.{SubroutineEntry}
+use Rattle.dwarf_inline.specs.Structure.{checked_item}
+use Rattle.dwarf_inline.specs.private.Levels.{checked_entry, open_at, opened, is_open, AreOpen}
 use Rattle.dwarf_inline.proofs.Lists.{any_default, count_same, count_none, count_filter}
 use Rattle.dwarf_inline.proofs.Items.{Ascending, items_ascending}
+use Rattle.dwarf_inline.proofs.KeptEntries.{nothing, Kept, kept_long, kept_at}
+use Rattle.dwarf_inline.proofs.CheckedItems.{entry_checked}
 
 pub levels_are : (p : ℕ → Bool) (old kept new : List ℕ) (end n : ℕ) → n ≡ length new → new ≡ kept ++ end ∷ [] → kept ≡ filter p old → n ≡ count_by p old + 1
 levels_are p old kept new end n is push filtered =
@@ -31,7 +35,7 @@ counts_one info j item end true inlined is = rw (inlined, is) refl
 counts_one info j item end false inlined is = rw (inlined) refl
 
 opens : (j : ℕ) (item : Indexed) (end : ℕ) (old : List ℕ) (b : Bool) → is_inlined item.1 ≡ b → item.0 ≤ j
-    → open_at j (opened item end old) ≡ open_at j old + cond b (cond (nat_lt j end) 1 0) 0
+    → open_at j (opened (subroutine_entry item) end old) ≡ open_at j old + cond b (cond (nat_lt j end) 1 0) 0
 opens j item end old true inlined le =
     ap (λ (t : Bool). open_at j (cond t (filter (λ other. nat_lt item.0 other) old ++ end ∷ []) old)) inlined
     ∙ sum_by_push (λ x. cond (nat_lt j x) 1 0) (filter (λ other. nat_lt item.0 other) old) end
@@ -40,7 +44,7 @@ opens j item end old false inlined le =
     ap (λ (t : Bool). open_at j (cond t (filter (λ other. nat_lt item.0 other) old ++ end ∷ []) old)) inlined ∙ omega arith
 
 pub opens_more : (info : DebugInfo) (items : List Indexed) (k : ℕ) (d : Indexed) (end : ℕ) (old new : List ℕ) → k < length items → end ≡ end_of info (get_or items k d)
-    → AreOpen info (take k items) old → new ≡ opened (get_or items k d) end old → AreOpen info (take (k + 1) items) new
+    → AreOpen info (take k items) old → new ≡ opened (subroutine_entry (get_or items k d)) end old → AreOpen info (take (k + 1) items) new
 opens_more info items k d end old new lt is so_far are = λ j seen.
     let item : Indexed = get_or items k d in
     let grown : take (k + 1) items ≡ take k items ++ item ∷ [] = take_more items k d lt in
@@ -113,3 +117,20 @@ levels_now info items k d ends same lt open_ends inlined =
     subst (λ (f : Indexed). f.0 ≤ e.0) (sym is) (omega arith) in
     among_items info e ∙ ap (count_by (encloses info e)) (sym same) ∙ levels_split info items k d up lt inlined
     ∙ ap (λ (n : ℕ). n + 1) (sym (open_ends e.0 seen))
+
+-- an item is checked by how many are open
+pub told : (info : DebugInfo) (items : List SubroutineEntry) (k : ℕ) (d : SubroutineEntry) (ends : List ℕ) → Kept info items → k < length items
+    → AreOpen info (take k (item_entries info)) ends
+    → checked_entry info (get_or items k d) (open_at (get_or items k d).index ends + 1) ≡ checked_item info (get_or (item_entries info) k nothing)
+told info items k d ends same lt open_ends =
+    let e : Indexed = get_or (item_entries info) k nothing in
+    let within : k < length (item_entries info) = omega (arith, kept_long info items same) in
+    ap (λ (s : SubroutineEntry). checked_entry info s (open_at s.index ends + 1)) (kept_at info items k d same lt)
+    ∙ entry_checked info e (open_at e.0 ends + 1) (λ inlined. levels_now info (item_entries info) k nothing ends refl within open_ends inlined)
+
+pub opens_kept : (info : DebugInfo) (items : List SubroutineEntry) (k : ℕ) (d : SubroutineEntry) (end : ℕ) (old new : List ℕ) → Kept info items → k < length items
+    → end ≡ end_of info (get_or (item_entries info) k nothing) → AreOpen info (take k (item_entries info)) old → new ≡ opened (get_or items k d) end old
+    → AreOpen info (take (k + 1) (item_entries info)) new
+opens_kept info items k d end old new same lt is so_far are =
+    opens_more info (item_entries info) k nothing end old new (omega (arith, kept_long info items same)) is so_far
+    (are ∙ ap (λ (s : SubroutineEntry). opened s end old) (kept_at info items k d same lt))

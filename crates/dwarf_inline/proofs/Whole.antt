@@ -16,7 +16,8 @@ use Rattle.dwarf_info.specs.Ranges.{ranges_of}
 use Rattle.dwarf_line.specs.Lines.{Lines}
 use Rattle.dwarf_inline.specs.declared.subroutine.Subroutine.{Subroutine}
 use Rattle.dwarf_inline.specs.declared.fault.StructureFault.{StructureFault}
-use Rattle.dwarf_inline.specs.Links.{Indexed, indexed, is_item, item_entries, entry_name}
+use Rattle.dwarf_info.specs.Subroutines.{Indexed, indexed, is_item, item_entries}
+use Rattle.dwarf_inline.specs.Links.{entry_name}
 use Rattle.dwarf_inline.specs.Nesting.{item_after}
 use Rattle.dwarf_inline.specs.Structure.{ProgramStructure, IsWholeStructure, item_of, counted_ranges, ranges_before, checked_items, structure_of}
 use Rattle.dwarf_inline.proofs.Items.{ranges_so_far, after_between}

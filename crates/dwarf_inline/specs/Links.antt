@@ -1,38 +1,10 @@
 -- Which entry gives a subprogram or an inlined subroutine its name and its identity. DWARF 5, sections 2.13.2, 2.15,
 -- 3.3.8.2 and 3.3.8.3.
-use Rattle.std.specs.Prelude.{ℕ, zero, suc, ◌==◌, ◌||◌, Bool, List, filter, take, slice_get, is_some}
-use Rattle.std.specs.Prelude.{unwrap_or, codes}
-use Rattle.std.specs.List.{enumerate_from}
+use Rattle.std.specs.Prelude.{ℕ, zero, suc, Bool, List, take, slice_get, is_some, unwrap_or, codes}
 use Rattle.std.specs.Option.{option_map_or}
 use Rattle.scope_types.specs.Limits.{most_name_bytes}
-use Rattle.dwarf_info.specs.declared.constants.TheConstants.{DW_TAG_subprogram, DW_TAG_inlined_subroutine}
-use Rattle.dwarf_info.specs.declared.entry.InfoEntry.{InfoEntry}
 use Rattle.dwarf_info.specs.Units.{DebugInfo}
 use Rattle.dwarf_info.specs.Queries.{name_of, link_of}
-
--- DW_TAG_subprogram (section 3.3)
-abbrev pub is_subprogram : InfoEntry → Bool
-is_subprogram e = e.tag == DW_TAG_subprogram
-
--- DW_TAG_inlined_subroutine (section 3.3.8.2)
-abbrev pub is_inlined : InfoEntry → Bool
-is_inlined e = e.tag == DW_TAG_inlined_subroutine
-
--- the entries that become items of the structure
-abbrev pub is_item : InfoEntry → Bool
-is_item e = is_subprogram e || is_inlined e
-
--- an entry beside its index
-abbrev pub Indexed : Type 0
-Indexed = ℕ × InfoEntry
-
--- the entries of debug information, each beside its index
-abbrev pub indexed : DebugInfo → List Indexed
-indexed info = enumerate_from 0 info.entries
-
--- the subprograms and inlined subroutines, in section order
-abbrev pub item_entries : DebugInfo → List Indexed
-item_entries info = filter (λ e. is_item e.1) (indexed info)
 
 -- ---- links
 

@@ -3,7 +3,7 @@ use Rattle.std.specs.Prelude.{ℕ, ◌+◌, ◌==◌, ◌&&◌, ◌||◌, nat_lt
 use Rattle.std.specs.List.{take_while}
 use Rattle.dwarf_info.specs.declared.entry.InfoEntry.{InfoEntry}
 use Rattle.dwarf_info.specs.Units.{DebugInfo}
-use Rattle.dwarf_inline.specs.Links.{Indexed, indexed, is_item, is_inlined}
+use Rattle.dwarf_info.specs.Subroutines.{Indexed, indexed, is_item, is_inlined}
 
 -- an entry is deeper than a depth
 abbrev pub is_deeper : ℕ → InfoEntry → Bool

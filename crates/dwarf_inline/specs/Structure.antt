@@ -17,7 +17,8 @@ use Rattle.dwarf_line.specs.Lines.{Lines, table_with}
 use Rattle.dwarf_inline.specs.declared.subroutine.Subroutine.{Subroutine}
 use Rattle.dwarf_inline.specs.declared.fault.StructureFault.{StructureFault}
 use Rattle.dwarf_inline.specs.declared.fault.StructureFault.TheVariants.{TooDeep, LinkCycle}
-use Rattle.dwarf_inline.specs.Links.{Indexed, is_inlined, item_entries, identity_offset, has_more_links}
+use Rattle.dwarf_info.specs.Subroutines.{Indexed, is_inlined, item_entries}
+use Rattle.dwarf_inline.specs.Links.{identity_offset, has_more_links}
 use Rattle.dwarf_inline.specs.Links.{entry_name, unnamed}
 use Rattle.dwarf_inline.specs.Nesting.{item_after, inlined_levels}
 

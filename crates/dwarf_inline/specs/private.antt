@@ -1,3 +1,5 @@
 pub mod Ends
 pub mod Levels
-pub mod Numbers
+pub mod Names
+pub mod Details
+pub mod Kept

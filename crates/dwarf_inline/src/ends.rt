@@ -1,98 +1,77 @@
-//! Where entries end, and which of them are items.
-ghost use Rattle.std.specs.Prelude.{◌≡◌, ◌+◌, ◌<◌, ◌^◌, length, map, IfOk};
-ghost use Rattle.dwarf_inline.specs.Links.{item_entries};
+//! Where entries end, and the numbers of the items after them.
+ghost use Rattle.std.specs.Prelude.{◌≡◌, ◌+◌, ◌<◌, ◌^◌, nat_lt, filter, length, map, IfOk};
+ghost use Rattle.std.specs.List.Sorted.{IsNonDecreasingBy};
+ghost use Rattle.dwarf_info.specs.Subroutines.{item_entries, subroutine_entry};
 ghost use Rattle.dwarf_inline.specs.Nesting.{item_after};
-ghost use Rattle.dwarf_inline.specs.private.Ends.{AreEndsFrom, AreItemsBefore, entry_end, items_among};
+ghost use Rattle.dwarf_inline.specs.private.Ends.{AreEndsFrom, depths_of, entry_end};
 
-use crate::links::is_item;
-use dwarf_info::{Info, InfoEntry};
+use dwarf_info::{Info, SubroutineEntry};
 use prof_bytes::Memory;
 use std::alloc::Global;
 
 /// The index after an entry and its descendants, by the ends of later entries; the entry has this index and depth.
-fn end_from(entries: &[InfoEntry], ends: &[u32], index: usize, depth: u32) -> u32
-    requires few { length entries.now < 2 ^ 31 }
-    requires here { index < length entries.now }
-    requires ends { AreEndsFrom entries.now (index + 1) ends.now }
-    ensures { result ≡ entry_end entries.now index depth }
+fn end_from(depths: &[u32], ends: &[u32], index: usize, depth: u32) -> u32
+    requires few { length depths.now < 2 ^ 31 }
+    requires here { index < length depths.now }
+    requires ends { AreEndsFrom depths.now (index + 1) ends.now }
+    ensures { result ≡ entry_end depths.now index depth }
 {
     let mut end = index + 1;
-    while end < entries.len() && entries[end].depth > depth {
+    while end < depths.len() && depths[end] > depth {
         end = ends[end] as usize;
     }
     end as u32
 }
 
-/// The index after each entry and its descendants. Takes linear time: from the last entry to the first, each is passed
-/// once.
-pub(crate) fn ends_of(alloc: Global, entries: &[InfoEntry]) -> Result<Vec<u32>, Memory>
-    requires { length entries.now < 2 ^ 31 }
-    ensures { IfOk result (λ ends. AreEndsFrom entries.now 0 ends.items) }
+/// The index after each entry and its descendants, by the depths of all. Takes linear time: from the last entry to the
+/// first, each is passed once.
+fn ends_among(alloc: Global, depths: &[u32]) -> Result<Vec<u32>, Memory>
+    requires { length depths.now < 2 ^ 31 }
+    ensures { IfOk result (λ ends. AreEndsFrom depths.now 0 ends.items) }
 {
-    // room: `entries.len()`, an end for each entry
-    let mut ends = vec![in alloc; 0u32; entries.len()]?;
-    let mut index = entries.len();
+    // room: `depths.len()`, an end for each entry
+    let mut ends = vec![in alloc; 0u32; depths.len()]?;
+    let mut index = depths.len();
     while index > 0 {
         index -= 1;
-        let end = end_from(entries, ends.as_slice(), index, entries[index].depth);
+        let end = end_from(depths, ends.as_slice(), index, depths[index]);
         ends[index] = end;
     }
     Ok(ends)
 }
 
-/// The number of items before each index, and before the end.
-pub(crate) fn items_before(alloc: Global, entries: &[InfoEntry]) -> Result<Vec<u32>, Memory>
-    requires { length entries.now < 2 ^ 31 }
-    ensures { IfOk result (λ counts. AreItemsBefore entries.now counts.items) }
+/// The index after each entry and its descendants. The depths are not needed after it, and their memory is given back.
+pub(crate) fn ends_of(alloc: Global, depths: Vec<u32>) -> Result<Vec<u32>, Memory>
+    requires { length depths.items < 2 ^ 31 }
+    ensures { IfOk result (λ ends. AreEndsFrom depths.items 0 ends.items) }
 {
-    let mut counts = Vec::new(alloc);
-    let mut count = 0u32;
-    for entry in entries {
-        counts.push(count)?;
-        if is_item(entry) {
-            count += 1;
-        }
-    }
-    counts.push(count)?;
-    Ok(counts)
+    ends_among(alloc, depths.as_slice())
 }
 
-/// The items, each with its index among the entries.
-pub(crate) fn items_among(
-    alloc: Global,
-    entries: &[InfoEntry],
-) -> Result<Vec<(u32, InfoEntry)>, Memory>
-    requires { length entries.now < 2 ^ 31 }
-    ensures { IfOk result (λ items. items.items ≡ items_among entries.now) }
+/// How many items have an index below `end`, by a binary search.
+fn count_below(items: &[SubroutineEntry], end: u32) -> usize
+    requires { IsNonDecreasingBy (λ item. item.index) items.now }
+    ensures { result ≡ length (filter (λ item. nat_lt item.index end) items.now) }
 {
-    let mut items = Vec::new(alloc);
-    for (index, entry) in entries.iter().enumerate() {
-        if is_item(entry) {
-            items.push((index as u32, *entry))?;
-        }
-    }
-    Ok(items)
+    items.partition_point(|item| item.index < end)
 }
 
 /// For each item the number of the first later item that is not a descendant of it.
 pub(crate) fn afters_of(
     alloc: Global,
     info: &Info<'_>,
-    entries: &[InfoEntry],
-    items: &[(u32, InfoEntry)],
+    items: &[SubroutineEntry],
     ends: &[u32],
 ) -> Result<Vec<u32>, Memory>
-    requires few { length entries.now < 2 ^ 31 }
-    requires entries { entries.now ≡ info.now.entries }
-    requires items { items.now ≡ item_entries info.now }
-    requires ends { AreEndsFrom info.now.entries 0 ends.now }
-    ensures { IfOk result (λ afters. afters.items ≡ map (item_after info.now) items.now) }
+    requires few { length info.now.entries < 2 ^ 31 }
+    requires items { items.now ≡ map subroutine_entry (item_entries info.now) }
+    requires ends { AreEndsFrom (depths_of info.now) 0 ends.now }
+    ensures { IfOk result (λ afters. afters.items ≡ map (item_after info.now) (item_entries info.now)) }
 {
-    let counts = items_before(alloc, entries)?;
     let mut afters = Vec::new(alloc);
     for item in items {
-        let end = ends[item.0 as usize];
-        afters.push(counts[end as usize])?;
+        let end = ends[item.index as usize];
+        afters.push(count_below(items, end) as u32)?;
     }
     Ok(afters)
 }

@@ -1,15 +1,18 @@
 //! The faults of items: too many links, and subroutines that are inlined too deep.
-ghost use Rattle.std.specs.Prelude.{◌≡◌, ◌+◌, ◌<◌, ◌++◌, ◌∷◌, [], true, nat_lt, length, map, filter, All, IfOk};
+ghost use Rattle.std.specs.Prelude.{◌≡◌, ◌+◌, ◌<◌, ◌++◌, ◌∷◌, [], nat_lt, length, map, filter, IfOk};
+ghost use Rattle.std.specs.List.{flat_map};
 ghost use Rattle.prof_bytes.specs.Outcome.{Gives};
-ghost use Rattle.dwarf_inline.specs.Links.{is_inlined, identity, item_entries};
-ghost use Rattle.dwarf_inline.specs.Nesting.{inlined_levels};
-ghost use Rattle.dwarf_inline.specs.Structure.{checked_item, checked_items};
-ghost use Rattle.dwarf_inline.specs.private.Ends.{AreEndsFrom};
-ghost use Rattle.dwarf_inline.specs.private.Levels.{open_at, opened};
+ghost use Rattle.dwarf_info.specs.Subroutines.{item_entries, subroutine_entry};
+ghost use Rattle.dwarf_inline.specs.Links.{identity, identity_offset};
+ghost use Rattle.dwarf_inline.specs.Structure.{checked_items};
+ghost use Rattle.dwarf_inline.specs.private.Ends.{AreEndsFrom, depths_of};
+ghost use Rattle.dwarf_inline.specs.private.Levels.{checked_entry, open_at, opened};
+ghost use Rattle.dwarf_inline.specs.private.Names.{named_item, pair_of};
 
 use crate::fault::StructureFault;
-use crate::links::{identity_of, is_inlined};
-use dwarf_info::{Info, InfoEntry};
+use crate::identities::{Identities, add_identity};
+use crate::links::identity_of;
+use dwarf_info::{Info, SubroutineEntry};
 use prof_bytes::{Fail, Memory};
 use std::alloc::Global;
 
@@ -30,24 +33,26 @@ fn open_level(open_ends: &mut Vec<u32>, index: u32, end: u32) -> Result<usize, M
 /// The identity of an item, unless it is at fault; `open_ends` has the ends of inlined subroutines before it.
 fn checked_item(
     info: &Info<'_>,
-    item: &(u32, InfoEntry),
+    item: &SubroutineEntry,
     end: u32,
     open_ends: &mut Vec<u32>,
 ) -> Result<u32, Fail<StructureFault>>
-    requires entry { item.now.0 < length info.now.entries }
-    requires levels { is_inlined item.now.1 ≡ true
-        → inlined_levels info.now item.now ≡ open_at item.now.0 open_ends.old.items + 1 }
-    ensures gives { Gives (λ _. tt) result (checked_item info.now item.now) }
-    ensures identity { IfOk result (λ i. i ≡ identity info.now item.now.0) }
+    requires entry { item.now.index < length info.now.entries }
+    ensures gives { Gives (λ _. tt) result
+        (checked_entry info.now item.now (open_at item.now.index open_ends.old.items + 1)) }
+    ensures identity { IfOk result (λ i. i ≡ identity info.now item.now.index) }
     ensures in_range { IfOk result (λ i. i < length info.now.entries) }
     ensures opened { IfOk result (λ _. open_ends.new.items ≡ opened item.now end open_ends.old.items) }
 {
-    let (index, entry) = *item;
-    let offset = entry.offset;
+    let SubroutineEntry {
+        index,
+        offset,
+        inlined,
+    } = *item;
     let Some(identity) = identity_of(info, index) else {
         return Err(Fail::Fault(StructureFault::LinkCycle { offset }));
     };
-    if is_inlined(&entry) {
+    if inlined {
         let levels = open_level(open_ends, index, end)?;
         if levels > MOST_LEVELS {
             return Err(Fail::Fault(StructureFault::TooDeep { offset }));
@@ -57,24 +62,45 @@ fn checked_item(
 }
 
 /// The identities of all items, or the first fault.
-pub(crate) fn checked_items(
+fn checked_items<'a>(
     alloc: Global,
-    info: &Info<'_>,
-    items: &[(u32, InfoEntry)],
+    info: &Info<'a>,
+    items: &[SubroutineEntry],
     ends: &[u32],
-) -> Result<Vec<u32>, Fail<StructureFault>>
-    requires items { items.now ≡ item_entries info.now }
-    requires ends { AreEndsFrom info.now.entries 0 ends.now }
-    ensures gives { Gives (λ _. tt) result (checked_items info.now items.now) }
-    ensures identities { IfOk result (λ v. v.items ≡ map (λ e. identity info.now e.0) items.now) }
-    ensures in_range { IfOk result (λ v. All (λ i. i < length info.now.entries) v.items) }
+) -> Result<Identities<'a>, Fail<StructureFault>>
+    requires items { items.now ≡ map subroutine_entry (item_entries info.now) }
+    requires ends { AreEndsFrom (depths_of info.now) 0 ends.now }
+    ensures gives { Gives (λ _. tt) result (checked_items info.now (item_entries info.now)) }
+    ensures offsets { IfOk result (λ v. v.offsets.items
+        ≡ map (λ e. identity_offset info.now e.0) (item_entries info.now)) }
+    ensures names { IfOk result (λ v. map pair_of v.names.items
+        ≡ flat_map (named_item info.now) (item_entries info.now)) }
 {
     let mut open_ends = Vec::new(alloc);
-    let mut identities = Vec::new(alloc);
+    let mut identities = Identities::new(alloc);
     for item in items {
-        let end = ends[item.0 as usize];
+        let end = ends[item.index as usize];
         let identity = checked_item(info, item, end, &mut open_ends)?;
-        identities.push(identity)?;
+        add_identity(&mut identities, info, identity)?;
     }
     Ok(identities)
+}
+
+/// The identities of all items, or the first fault. The ends of entries are not needed after it, and their memory is
+/// given back.
+pub(crate) fn identities_of<'a>(
+    alloc: Global,
+    info: &Info<'a>,
+    items: &[SubroutineEntry],
+    ends: Vec<u32>,
+) -> Result<Identities<'a>, Fail<StructureFault>>
+    requires items { items.now ≡ map subroutine_entry (item_entries info.now) }
+    requires ends { AreEndsFrom (depths_of info.now) 0 ends.items }
+    ensures gives { Gives (λ _. tt) result (checked_items info.now (item_entries info.now)) }
+    ensures offsets { IfOk result (λ v. v.offsets.items
+        ≡ map (λ e. identity_offset info.now e.0) (item_entries info.now)) }
+    ensures names { IfOk result (λ v. map pair_of v.names.items
+        ≡ flat_map (named_item info.now) (item_entries info.now)) }
+{
+    checked_items(alloc, info, items, ends.as_slice())
 }

@@ -6,14 +6,14 @@
 //! `elf_image`, `scope_types` and `prof_bytes`.
 #![tactic(auto)]
 
+mod details;
 mod ends;
 mod fault;
+mod identities;
 mod levels;
 mod links;
-mod numbers;
 mod structure;
 mod subroutine;
-mod subroutine_lists;
 
 pub use fault::StructureFault;
 pub use structure::{Structure, read_structure};

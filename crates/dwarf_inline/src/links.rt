@@ -1,24 +1,11 @@
 //! Links from entries to those that they complete (DWARF 5, sections 2.13.2, 3.3.8.2 and 3.3.8.3).
 ghost use Rattle.std.specs.Prelude.{◌≡◌, ◌<◌, length, IfSome, Some, None, if◌then◌else◌};
-ghost use Rattle.dwarf_inline.specs.Links.{is_item, is_inlined, identity, has_more_links};
+ghost use Rattle.dwarf_inline.specs.Links.{identity, has_more_links};
 
-use dwarf_info::constants::{DW_TAG_inlined_subroutine, DW_TAG_subprogram};
-use dwarf_info::{Info, InfoEntry};
+use dwarf_info::Info;
 
 /// The most links that may follow one another.
 const MOST_LINKS: u32 = 8;
-
-pub(crate) fn is_inlined(entry: &InfoEntry) -> bool
-    ensures { result ≡ is_inlined entry.now }
-{
-    entry.tag == DW_TAG_inlined_subroutine
-}
-
-pub(crate) fn is_item(entry: &InfoEntry) -> bool
-    ensures { result ≡ is_item entry.now }
-{
-    entry.tag == DW_TAG_subprogram || is_inlined(entry)
-}
 
 /// The entry to which all links lead; `None` where more than `MOST_LINKS` follow one another.
 pub(crate) fn identity_of(info: &Info<'_>, entry: u32) -> Option<u32>

@@ -3,47 +3,61 @@ ghost use Rattle.std.specs.Prelude.{◌≡◌, ◌<◌, length, slice_get, Some}
 ghost use Rattle.prof_bytes.specs.Outcome.{Gives};
 ghost use Rattle.dwarf_inline.specs.Structure.{IsWholeStructure, proc_name, structure_of};
 
-use crate::ends::{afters_of, ends_of, items_among};
+use crate::details::{Detail, Sources, read_lists};
+use crate::ends::{afters_of, ends_of};
 use crate::fault::StructureFault;
-use crate::levels::checked_items;
-use crate::numbers::numbers_of;
+use crate::identities::{ProcName, name_in, sort_names};
+use crate::levels::identities_of;
 use crate::subroutine::Subroutine;
-use crate::subroutine_lists::{Sources, read_lists};
-use dwarf_info::Info;
+use dwarf_info::{Info, SubroutineEntry};
 use dwarf_line::LineTable;
 use elf_image::Image;
 use prof_bytes::Fail;
 use std::alloc::Global;
-use std::collections::BTreeMap;
 use std::marker::Model;
 
-/// The structure of a program (DWARF 5, section 3.3). It borrows the sections' bytes.
+/// The structure of a program (DWARF 5, section 3.3). It borrows the sections' bytes. An item takes 24 bytes, and what
+/// its ranges and its name take.
 #[derive(Drop)]
 pub struct Structure<'a> {
-    items: Vec<Subroutine>,
-    names: Vec<&'a [u8]>,
+    entries: Vec<SubroutineEntry>,
+    /// The number of the first later item that is not a descendant of each.
+    afters: Vec<u32>,
+    /// The offset of the identity of each.
+    identities: Vec<u32>,
+    /// The index of the detail of each.
+    places: Vec<u32>,
+    details: Vec<Detail>,
+    /// The names of the identities, by their offsets.
+    names: Vec<ProcName<'a>>,
     ranges: Vec<(u32, u32)>,
-    numbers: BTreeMap<u32, u32>,
 }
 
 impl<'a> Model for Structure<'a> {
     ghost use Rattle.dwarf_inline.specs.Structure.{ProgramStructure};
-    ghost use Rattle.dwarf_inline.specs.private.Numbers.{IsIndexed};
-    ghost use Rattle.std.specs.Prelude.{map};
+    ghost use Rattle.dwarf_inline.specs.private.Kept.{AreLists, structure_in};
 
     ghost Value = { ProgramStructure };
 
-    ghost view = { λ structure. record {
-      items = structure.items.items;
-      names = map (λ name. name.now) structure.names.items;
+    ghost view = { λ structure. structure_in (record {
+      entries = structure.entries.items;
+      afters = structure.afters.items;
+      identities = structure.identities.items;
+      places = structure.places.items;
+      details = structure.details.items;
+      names = structure.names.items;
       ranges = structure.ranges.items;
-    } };
+    }) };
 
-    ghost invariant = { λ structure. IsIndexed (record {
-      items = structure.items.items;
-      names = map (λ name. name.now) structure.names.items;
+    ghost invariant = { λ structure. AreLists (record {
+      entries = structure.entries.items;
+      afters = structure.afters.items;
+      identities = structure.identities.items;
+      places = structure.places.items;
+      details = structure.details.items;
+      names = structure.names.items;
       ranges = structure.ranges.items;
-    }) structure.numbers };
+    }) };
 }
 
 impl<'a> Structure<'a> {
@@ -52,7 +66,7 @@ impl<'a> Structure<'a> {
         ensures count { result ≡ length self.now.items }
         ensures whole { IsWholeStructure self.now }
     {
-        self.items.len() as u32
+        self.entries.len() as u32
     }
 
     /// The item with a number. Takes no memory.
@@ -60,7 +74,18 @@ impl<'a> Structure<'a> {
         requires { number < length self.now.items }
         ensures { slice_get self.now.items number ≡ Some result }
     {
-        self.items[number as usize]
+        let at = number as usize;
+        let entry = self.entries[at];
+        let detail = self.details[self.places[at] as usize];
+        Subroutine {
+            offset: entry.offset,
+            inlined: entry.inlined,
+            next_after_subtree: self.afters[at],
+            identity: self.identities[at],
+            call: detail.call,
+            first_range: detail.first_range,
+            range_count: detail.range_count,
+        }
     }
 
     /// A range that counts, from its start up to its end (DWARF 5, section 2.17). Those of an item are the
@@ -77,8 +102,8 @@ impl<'a> Structure<'a> {
     pub fn proc_name(&self, offset: u32) -> &'a [u8]
         ensures { result.now ≡ proc_name self.now offset }
     {
-        match self.numbers.get(&offset) {
-            Some(number) => self.names[*number as usize],
+        match name_in(self.names.as_slice(), offset) {
+            Some(name) => name,
             None => b"<unnamed>",
         }
     }
@@ -95,30 +120,21 @@ pub fn read_structure<'a>(
 ) -> Result<Structure<'a>, Fail<StructureFault>>
     ensures { Gives (λ structure. structure) result (structure_of info.now lines.now image.now) }
 {
-    let all = info.entries(alloc)?;
-    let entries = all.as_slice();
-    let items = items_among(alloc, entries)?;
-    let ends = ends_of(alloc, entries)?;
-    let identities = checked_items(alloc, info, items.as_slice(), ends.as_slice())?;
-    let afters = afters_of(alloc, info, entries, items.as_slice(), ends.as_slice())?;
-    let sources = Sources {
-        info,
-        entries,
-        lines,
-        image,
-    };
-    let lists = read_lists(
-        alloc,
-        sources,
-        items.as_slice(),
-        afters.as_slice(),
-        identities.as_slice(),
-    )?;
-    let numbers = numbers_of(alloc, lists.items.as_slice())?;
+    let outline = info.outline(alloc)?;
+    let entries = outline.subroutines;
+    let ends = ends_of(alloc, outline.depths)?;
+    let afters = afters_of(alloc, info, entries.as_slice(), ends.as_slice())?;
+    let mut identities = identities_of(alloc, info, entries.as_slice(), ends)?;
+    sort_names(&mut identities.names);
+    let sources = Sources { info, lines, image };
+    let lists = read_lists(alloc, sources, entries.as_slice())?;
     Ok(Structure {
-        items: lists.items,
-        names: lists.names,
+        entries,
+        afters,
+        identities: identities.offsets,
+        places: lists.places,
+        details: lists.details,
+        names: identities.names,
         ranges: lists.ranges,
-        numbers,
     })
 }

@@ -1,6 +1,7 @@
 use prof_bytes::{Cursor, Listed, Memory, Text, put_u32, put_u64};
 use std::alloc::Global;
 use std::test::Fail;
+use test_programs::rows::no_row;
 
 /// Reads of numbers of variable length: a name, the bytes, the value, how many bytes it took. The values are
 /// the examples of DWARF 5, section 7.6, and the ends of 64 bits.
@@ -84,8 +85,8 @@ fn other_signed() -> Option<&'static str> {
 }
 
 #[test]
-fn numbers_of_variable_length(rt: HostRuntime) {
-    assert_eq!(rt; other_unsigned().or(other_signed()), None);
+fn numbers_of_variable_length(rt: HostRuntime) -> Result<(), Fail> {
+    no_row(other_unsigned().or(other_signed()))
 }
 
 /// The bytes 1 to 18, and two texts, of which the second has no end.

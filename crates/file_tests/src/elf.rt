@@ -3,7 +3,7 @@ use prof_bytes::Memory;
 use std::alloc::Global;
 use std::fmt::Write;
 use std::test::Fail;
-use test_programs::rows::{bytes_of, changed, cut};
+use test_programs::rows::{bytes_of, changed, cut, no_row};
 
 mod files;
 mod refused;
@@ -49,29 +49,25 @@ fn failing(
 #[test]
 fn the_header_is_refused(rt: HostRuntime) -> Result<(), Fail> {
     let other = failing(rt.alloc(), files::straight(), &refused::HEADER_ROWS)?;
-    assert_eq!(rt; other, None);
-    Ok(())
+    no_row(other)
 }
 
 #[test]
 fn segments_are_refused(rt: HostRuntime) -> Result<(), Fail> {
     let other = failing(rt.alloc(), files::segments(), &refused::SEGMENT_ROWS)?;
-    assert_eq!(rt; other, None);
-    Ok(())
+    no_row(other)
 }
 
 #[test]
 fn sections_are_refused(rt: HostRuntime) -> Result<(), Fail> {
     let other = failing(rt.alloc(), files::names(), &refused::SECTION_ROWS)?;
-    assert_eq!(rt; other, None);
-    Ok(())
+    no_row(other)
 }
 
 #[test]
 fn symbols_are_refused(rt: HostRuntime) -> Result<(), Fail> {
     let other = failing(rt.alloc(), files::recursive(), &refused::SYMBOL_ROWS)?;
-    assert_eq!(rt; other, None);
-    Ok(())
+    no_row(other)
 }
 
 /// Whether a front of a file is refused at its end.

@@ -5,7 +5,7 @@ use std::alloc::Global;
 use std::fmt::Write;
 use std::test::Fail;
 use test_programs::program::{UNREADABLE, Unread, image_of, table_of};
-use test_programs::rows::{bytes_of, cut, number, replaced};
+use test_programs::rows::{bytes_of, cut, no_row, number, replaced};
 
 mod changes;
 mod exceptions;
@@ -123,23 +123,20 @@ fn failing_rules(
 #[test]
 fn rules_of_gcc(rt: HostRuntime) -> Result<(), Fail> {
     let other = failing_rules(rt.alloc(), sections::gcc(), &sections::GCC_RULES)?;
-    assert_eq!(rt; other, None);
-    Ok(())
+    no_row(other)
 }
 
 #[test]
 fn rules_of_clang(rt: HostRuntime) -> Result<(), Fail> {
     let other = failing_rules(rt.alloc(), sections::clang(), &sections::CLANG_RULES)?;
-    assert_eq!(rt; other, None);
-    Ok(())
+    no_row(other)
 }
 
 #[test]
 fn rules_of_every_directive(rt: HostRuntime) -> Result<(), Fail> {
     let section = sections::directives();
     let other = failing_rules(rt.alloc(), section, &sections::DIRECTIVES_RULES)?;
-    assert_eq!(rt; other, None);
-    Ok(())
+    no_row(other)
 }
 
 #[test]
@@ -149,8 +146,7 @@ fn rules_where_locations_move(rt: HostRuntime) -> Result<(), Fail> {
         sections::locations(),
         &sections::LOCATIONS_RULES,
     )?;
-    assert_eq!(rt; other, None);
-    Ok(())
+    no_row(other)
 }
 
 /// An FDE, and the rules at 0x10018, as text.
@@ -218,8 +214,7 @@ fn other_change(alloc: Global) -> Result<Option<&'static str>, Unread> {
 
 #[test]
 fn faults_by_their_offsets(rt: HostRuntime) -> Result<(), Fail> {
-    assert_eq!(rt; other_change(rt.alloc())?, None);
-    Ok(())
+    no_row(other_change(rt.alloc())?)
 }
 
 /// Addresses, and how many bytes the rules there are made from: 3 of the CIE and 12 of the FDE.

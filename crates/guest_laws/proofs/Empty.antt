@@ -13,7 +13,8 @@ use Rattle.dwarf_info.specs.Units.{DebugInfo, debug_info_of, entries_in, info_in
 use Rattle.dwarf_line.specs.Names.{Texts}
 use Rattle.dwarf_line.specs.Lines.{Lines, line_tables_of, lines_at}
 use Rattle.dwarf_inline.specs.declared.fault.StructureFault.{StructureFault}
-use Rattle.dwarf_inline.specs.Links.{Indexed, entry_name, is_item, item_entries}
+use Rattle.dwarf_info.specs.Subroutines.{Indexed, is_item, item_entries}
+use Rattle.dwarf_inline.specs.Links.{entry_name}
 use Rattle.dwarf_inline.specs.Structure.{ProgramStructure, checked_items, counted_ranges, item_of, structure_of}
 use Rattle.guest_laws.specs.Known.{no_lines, no_structure, without_units}
 

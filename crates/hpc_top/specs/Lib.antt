@@ -12,9 +12,4 @@ pub mod Outcome
 pub mod Follows
 pub mod Made
 pub mod Merged
-pub mod Apart
-pub mod Order
-pub mod LiveRuns
-pub mod Databases
-pub mod TracesOfRuns
 pub mod private

@@ -60,6 +60,7 @@ fn count_sample(ccts: &mut Ccts, events: u32, sample: &Sample) -> Result<(), Fai
 }
 
 /// The next sample; `None` where the run has ended.
+#[inline(always)]
 pub fn next_sample<U: Unwind>(
     samples: &mut Samples<'_>,
     unwinder: &U,

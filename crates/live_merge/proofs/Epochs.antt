@@ -315,9 +315,9 @@ module _ (path_of : Paths) (columns events : ℕ) (first : Tables) (start now ne
         absurd (omega (arith, few, many, grows, all_of))
 
   -- none is left
-  pub so_far_over : (most : ℕ) (epoch : Epoch) → GivesNone path_of now next → (to_come next.machine).final ≡ (to_come now.machine).final → epoch.is_last ≡ true → epoch.samples ≡ taken → epoch.ccts ≡ own
+  pub so_far_over : (most : ℕ) (epoch : Epoch) → taken < most → GivesNone path_of now next → (to_come next.machine).final ≡ (to_come now.machine).final → epoch.is_last ≡ true → epoch.samples ≡ taken → epoch.ccts ≡ own
       → (done : List ColumnRaw) → first ≡ distinct columns done → length done ≡ start.met → IsEpoch path_of columns most done epoch all start next
-  so_far_over most epoch none last is_last samples ccts done is long =
+  so_far_over most epoch early none last is_last samples ccts done is long =
       let are = sofar.all_are done is long in
       record {
         given = sofar.given;
@@ -332,6 +332,7 @@ module _ (path_of : Paths) (columns events : ℕ) (first : Tables) (start now ne
         met = none.over.met ∙ sofar.met;
         few = (let met = none.over.met in let few = sofar.few in omega (arith, met, few));
         count = sofar.count ∙ sym none.over.met;
+        within = (let many = sofar.as_many in omega (arith, many, early));
         full = λ ends. absurd (let both : true ≡ false = sym is_last ∙ ends in cc);
         ended = λ _. sym (ap (λ (r : Run). r.final) none.over.ended) ∙ last ∙ sofar.last;
         last = last ∙ sofar.last;
@@ -355,6 +356,7 @@ module _ (path_of : Paths) (columns events : ℕ) (first : Tables) (start now ne
         met = sofar.met;
         few = sofar.few;
         count = sofar.count;
+        within = (let many = sofar.as_many in omega (arith, many, full));
         full = λ _. sofar.as_many ∙ full;
         ended = λ over. absurd (let both : false ≡ true = sym is_last ∙ over in cc);
         last = sofar.last;

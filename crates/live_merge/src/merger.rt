@@ -78,7 +78,10 @@ impl<'a, G: Gate> Merger for GateWorkers<'a, G> {
         self.gate
     }
 
-    fn workers(&self) -> u32 {
+    fn workers(&self) -> u32
+        ensures few { (1 ≤ result) × (result ≤ most_workers) }
+        ensures own { result ≡ self.now.workers }
+    {
         self.workers
     }
 }

@@ -1,4 +1,6 @@
 mod Sums
+mod Repeats
+mod OneColumn
 mod Writing
 mod Lengths
 mod Back

@@ -1,17 +1,17 @@
 //! The single words of a measurement file.
-ghost use Rattle.std.specs.Prelude.{◌≡◌, ◌+◌, ◌≤◌, length, IfOk, []};
+ghost use Rattle.std.specs.Prelude.{◌≡◌, ◌+◌, ◌≤◌, length, map, IfOk, OnOk, []};
 ghost use Rattle.prof_bytes.specs.Outcome.{GivesAt, GivesFrom};
 ghost use Rattle.scope_types.specs.Limits.{most_frames_in_all, most_frames_of_path, most_harts, most_samples};
 ghost use Rattle.prof_bytes.specs.Repeated.{adding, times};
 ghost use Rattle.measure_file.specs.Fields.{word_from, word_by};
 ghost use Rattle.measure_file.specs.Reading.{is_count, is_end_number, is_length, is_period, is_harts};
 ghost use Rattle.measure_file.specs.Reading.{measured_frame_from};
+ghost use Rattle.thread_cct.specs.Listing.{frame_at};
 
 use crate::fault::MeasureFault;
 use prof_bytes::{Cursor, Fail};
 use scope_types::Frame;
 use scope_types::limits::{MOST_FRAMES_IN_ALL, MOST_FRAMES_OF_PATH, MOST_HARTS, MOST_SAMPLES};
-use std::alloc::Global;
 
 pub(crate) fn fault_at(offset: usize) -> MeasureFault
     ensures { result ≡ record { offset = offset } }
@@ -102,20 +102,20 @@ fn read_frame(cursor: &mut Cursor<'_>) -> Result<Frame, MeasureFault>
     Ok(Frame { pc })
 }
 
-/// `count` frames. The list grows as they are read.
-pub(crate) fn read_frames(
-    alloc: Global,
+/// The addresses of `count` frames, in place of those that are in the list. It grows as they are read.
+pub(crate) fn read_addresses(
     cursor: &mut Cursor<'_>,
     count: u32,
-) -> Result<Vec<Frame>, Fail<MeasureFault>>
-    ensures read { GivesFrom (λ v. v.items) result cursor.new
+    pcs: &mut Vec<u32>,
+) -> Result<(), Fail<MeasureFault>>
+    ensures read { GivesFrom (λ done. map frame_at pcs.new.items) result cursor.new
         (times (adding measured_frame_from) count 0 [] cursor.old) }
-    ensures many { IfOk result (λ v. length v.items ≡ count) }
+    ensures many { OnOk result (length pcs.new.items ≡ count) }
 {
-    let mut frames = Vec::new(alloc);
+    pcs.clear();
     for _ in 0..count {
         let frame = read_frame(cursor)?;
-        frames.push(frame)?;
+        pcs.push(frame.pc)?;
     }
-    Ok(frames)
+    Ok(())
 }

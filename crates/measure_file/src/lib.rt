@@ -5,6 +5,7 @@
 //! `prof_bytes`.
 #![tactic(auto)]
 
+mod column;
 mod events;
 mod fault;
 mod fields;

@@ -1,14 +1,13 @@
 //! The counted paths that were read so far.
-ghost use Rattle.std.specs.Prelude.{◌≡◌, ◌+◌, ◌<◌, ◌≤◌, [], length, replicate, IfOk, OnOk};
-ghost use Rattle.prof_bytes.specs.Outcome.{Gives};
+ghost use Rattle.std.specs.Prelude.{◌≡◌, ◌<◌, ◌≤◌, [], length, replicate, slice_set, All, IfOk};
 ghost use Rattle.scope_types.specs.Distinct.{frames_in, samples_in};
 ghost use Rattle.scope_types.specs.Limits.{most_frames_in_all, most_samples};
-ghost use Rattle.measure_file.specs.Reading.{new_path};
+ghost use Rattle.thread_cct.specs.Adding.{of_column};
+ghost use Rattle.thread_cct.specs.Listing.{HasNoRepeat};
+ghost use Rattle.measure_file.specs.private.Columns.{AreSumsWith};
 
-use crate::fault::MeasureFault;
-use crate::fields::fault_at;
-use prof_bytes::{Fail, Memory};
-use scope_types::RawPath;
+use crate::column::OpenColumn;
+use prof_bytes::Memory;
 use std::alloc::Global;
 use std::marker::Model;
 use thread_cct::Ccts;
@@ -63,29 +62,24 @@ impl Paths {
         self.frames
     }
 
-    /// Puts a path of a column that was read with its count, and whose first pc is at this offset.
-    pub(crate) fn put(
-        &mut self,
-        column: u32,
-        raw: RawPath,
-        count: u32,
-        offset: usize,
-    ) -> Result<(), Fail<MeasureFault>>
+    /// Gives a column the paths that were read of it.
+    pub(crate) fn put(&mut self, column: u32, read: OpenColumn)
         requires column { column < length self.old }
-        requires count { 0 < count }
-        requires few { samples_in self.old + count ≤ most_samples }
-        requires frames { frames_in self.old + length raw.frames ≤ most_frames_in_all }
-        ensures put { Gives (λ done. self.new) result
-            (new_path column offset (record { path = raw; count = count }) self.old) }
-        ensures columns { OnOk result (length self.new ≡ length self.old) }
+        requires empty { of_column self.old column ≡ [] }
+        requires distinct { HasNoRepeat read.paths }
+        requires counted { All (λ c. 0 < c.count) read.paths }
+        requires sums { AreSumsWith (samples_in self.old) (frames_in self.old) read.paths read.samples read.frames }
+        ensures { self.new ≡ slice_set self.old column read.paths }
     {
-        let frames = raw.frames().len() as u32;
-        if !self.ccts.put_new(column, raw, count)? {
-            return Err(Fail::Fault(fault_at(offset)));
-        }
-        self.samples += count;
-        self.frames += frames;
-        Ok(())
+        let OpenColumn {
+            paths,
+            samples,
+            frames,
+            ..
+        } = read;
+        self.ccts.put_list(column, paths);
+        self.samples = samples;
+        self.frames = frames;
     }
 
     /// The paths.

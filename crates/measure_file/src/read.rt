@@ -1,69 +1,25 @@
 //! What the bytes of a measurement say.
-ghost use Rattle.std.specs.Prelude.{◌≡◌, ◌*◌, ◌^◌, ◌<◌, ◌≤◌, length, IfOk, OnOk};
+ghost use Rattle.std.specs.Prelude.{◌≡◌, ◌*◌, ◌^◌, ◌<◌, ◌≤◌, [], List, length, replicate, slice_set, IfOk, OnOk};
 ghost use Rattle.prof_bytes.specs.Outcome.{Gives, GivesFrom};
 ghost use Rattle.prof_bytes.specs.Repeated.{times};
 ghost use Rattle.scope_types.specs.Limits.{most_events};
+ghost use Rattle.scope_types.specs.declared.frame.Counted.{Counted};
+ghost use Rattle.thread_cct.specs.Adding.{of_column};
 ghost use Rattle.measure_file.specs.Measurable.{IsEventMeasurable, IsMeasurable};
 ghost use Rattle.measure_file.specs.Reading.{begins_with, column_from, event_measurement_in, measure_head_from};
-ghost use Rattle.measure_file.specs.Reading.{measured_path_from, measurement_in, single_head, tables_from};
+ghost use Rattle.measure_file.specs.Reading.{measurement_in, single_head, tables_from};
 ghost use Rattle.measure_file.specs.Reading.{version_1_told, version_told};
 ghost use Rattle.measure_file.specs.Spelling.{measure_magic};
 
+use crate::column::read_column_paths;
 use crate::events::read_events;
 use crate::fault::MeasureFault;
-use crate::fields::{
-    fault_at, read_count, read_end, read_frames, read_harts, read_length, read_word,
-};
+use crate::fields::{fault_at, read_harts, read_word};
 use crate::head::{EventHead, MeasureHead, MeasureVersion, magic_of};
 use crate::paths::Paths;
 use prof_bytes::{Cursor, Fail, Listed};
-use scope_types::{End, RawPath};
 use std::alloc::Global;
 use thread_cct::Ccts;
-
-/// A path of a column.
-#[tactic(auto, unfolding(crate::specs::Reading::measured_path_from))]
-fn read_path(
-    alloc: Global,
-    cursor: &mut Cursor<'_>,
-    paths: &mut Paths,
-    column: u32,
-) -> Result<(), Fail<MeasureFault>>
-    requires { column < length paths.old }
-    ensures read { GivesFrom (λ done. paths.new) result cursor.new (measured_path_from column paths.old cursor.old) }
-    ensures columns { OnOk result (length paths.new ≡ length paths.old) }
-{
-    let count = read_count(cursor, paths.samples())?;
-    let end = read_end(cursor)?;
-    let length = read_length(cursor, paths.frames())?;
-    let first_pc = cursor.place();
-    let frames = read_frames(alloc, cursor, length)?;
-    paths.put(
-        column,
-        RawPath::of(End::of_number(end), frames),
-        count,
-        first_pc,
-    )
-}
-
-/// `count` paths of a column.
-fn read_paths(
-    alloc: Global,
-    cursor: &mut Cursor<'_>,
-    paths: &mut Paths,
-    column: u32,
-    count: u32,
-) -> Result<(), Fail<MeasureFault>>
-    requires { column < length paths.old }
-    ensures read { GivesFrom (λ done. paths.new) result cursor.new
-        (times (λ i. measured_path_from column) count 0 paths.old cursor.old) }
-    ensures columns { OnOk result (length paths.new ≡ length paths.old) }
-{
-    for _ in 0..count {
-        read_path(alloc, cursor, paths, column)?;
-    }
-    Ok(())
-}
 
 /// The paths of a column, their number before them.
 #[tactic(auto, unfolding(crate::specs::Reading::column_from))]
@@ -73,12 +29,15 @@ fn read_column(
     paths: &mut Paths,
     column: u32,
 ) -> Result<(), Fail<MeasureFault>>
-    requires { column < length paths.old }
+    requires own { column < length paths.old }
+    requires empty { of_column paths.old column ≡ [] }
     ensures read { GivesFrom (λ done. paths.new) result cursor.new (column_from column paths.old cursor.old) }
-    ensures columns { OnOk result (length paths.new ≡ length paths.old) }
+    ensures put { OnOk result ((own : List Counted) × (paths.new ≡ slice_set paths.old column own)) }
 {
     let count = read_word(cursor)?;
-    read_paths(alloc, cursor, paths, column, count)
+    let own = read_column_paths(alloc, cursor, paths.samples(), paths.frames(), count)?;
+    paths.put(column, own);
+    Ok(())
 }
 
 /// The paths of all columns.
@@ -88,7 +47,7 @@ fn read_tables(
     paths: &mut Paths,
     columns: u32,
 ) -> Result<(), Fail<MeasureFault>>
-    requires { length paths.old ≡ columns }
+    requires { paths.old ≡ replicate columns [] }
     ensures { GivesFrom (λ done. paths.new) result cursor.new (times column_from columns 0 paths.old cursor.old) }
 {
     for column in 0..columns {

@@ -1,3 +1,4 @@
 pub mod Marking
+pub mod Offering
 pub mod Settling
 pub mod Waiting

@@ -38,7 +38,7 @@ owes_rest s c v w (Present p) o d t = let e : owes d t w ≡ times_piece d t (wi
 owes_rest s c v w (Busy l f) o d t = let e : owes d t w ≡ owes d t v = ap (owes d t) o in omega arith
 owes_rest s c v w (Memory failed) o d t = let e : owes d t w ≡ owes d t v = ap (owes d t) o in omega arith
 
-total_append : (f : Waiting → ℕ) (xs ys : List Waiting) → total f (xs ++ ys) ≡ total f xs + total f ys
+pub total_append : (f : Waiting → ℕ) (xs ys : List Waiting) → total f (xs ++ ys) ≡ total f xs + total f ys
 total_append f [] ys = omega arith
 total_append f (x ∷ xs) ys = let r = total_append f xs ys in omega arith
 
@@ -48,13 +48,13 @@ is_of plan p = IsPieceOf plan p.piece
 abbrev is_few : Waiting → Type 0
 is_few p = p.offers < 64
 
-abbrev offers : Waiting → ℕ
+abbrev pub offers : Waiting → ℕ
 offers p = p.offers
 
 abbrev left : Waiting → ℕ
 left p = 64 - p.offers
 
-abbrev is_at : ℕ → ℕ → Waiting → ℕ
+abbrev pub is_at : ℕ → ℕ → Waiting → ℕ
 is_at d t p = weight (is_piece d t (p.piece.chunk, p.piece.stripe))
 
 -- the first of those that wait is offered
@@ -98,10 +98,10 @@ fewer_back p q few = let a = total_snoc left q (later p) in omega arith
 
 -- ---- a chunk's pieces
 
-abbrev new_pieces : Chunks → ℕ → List Waiting
+abbrev pub new_pieces : Chunks → ℕ → List Waiting
 new_pieces plan c = map first_time (pieces_of plan c)
 
-new_owed : (plan : Chunks) (c d t : ℕ) → total (is_at d t) (new_pieces plan c) ≡ times_piece d t (chunk_pieces c 16)
+pub new_owed : (plan : Chunks) (c d t : ℕ) → total (is_at d t) (new_pieces plan c) ≡ times_piece d t (chunk_pieces c 16)
 new_owed plan c d t = omega arith
 
 are_pieces : (plan : Chunks) (c : ℕ) → c < length plan → All (is_of plan) (new_pieces plan c)

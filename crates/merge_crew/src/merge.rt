@@ -1,7 +1,7 @@
 ghost use Rattle.std.specs.Prelude.{◌≡◌, ℕ, ◌+◌, ◌*◌, ◌<◌, ◌≤◌, IfOk, length};
 ghost use Rattle.scope_types.specs.Limits.{most_workers, stripe_count};
 ghost use Rattle.thread_cct.specs.Plan.{FitsExpansion, expanded};
-ghost use Rattle.merge_crew.specs.Merged.{IsOfPlan, IsUnfilled, NamesEach};
+ghost use Rattle.merge_crew.specs.Merged.{IsOfPlan, IsUnfilled, NamesEach, OffersEach};
 
 use crate::settle::settle_rest;
 use crate::work::Worker;
@@ -45,6 +45,7 @@ pub fn merge_all<R: Threads + Sync, E: Expand + Sync, G: Gate>(
         ≡ length (expanded plan.now (E.call_path expand.now))) }
     ensures counted { IfOk result (λ crew. crew.merged + crew.busy_left + crew.present
         ≡ stripe_count * crew.stripes.view.got) }
+    ensures offered { IfOk result OffersEach }
     ensures merged { IfOk result (λ crew. crew.merged ≡ length crew.stripes.view.puts) }
     ensures sum { IfOk result (λ crew. crew.merged + crew.settled
         ≡ stripe_count * length (expanded plan.now (E.call_path expand.now))) }

@@ -102,6 +102,7 @@ fn settle_piece(set: &mut StripeSet, marks: &[Marks], piece: &Piece) -> Result<u
     requires piece { IsPieceOf set.old.view.plan piece.now }
     requires marks { MarkIsExact set.old.stripes marks.now piece.now.stripe piece.now.chunk }
     ensures view { set.new.view ≡ set.old.view }
+    ensures offered { set.new.offered ≡ set.old.offered }
     ensures fits { AllFit set.new.view.plan set.new.stripes }
     ensures named { IfOk result (λ _. 0 < occurrences piece.now.chunk (stripe_names set.new.stripes piece.now.stripe)) }
     ensures others { (c s : ℕ) → (c ≡ piece.now.chunk → s ≡ piece.now.stripe → ⊥)
@@ -127,6 +128,7 @@ fn settle_pieces(
     requires pieces { (s : ℕ) → s < stripe_count → slice_get pieces.now s ≡ Some (piece_of set.old.view.plan _chunk s) }
     requires marks { (s : ℕ) → s < stripe_count → MarkIsExact set.old.stripes marks.now s _chunk }
     ensures view { set.new.view ≡ set.old.view }
+    ensures offered { set.new.offered ≡ set.old.offered }
     ensures fits { AllFit set.new.view.plan set.new.stripes }
     ensures named { IfOk result (λ _. (s : ℕ) → s < stripe_count
         → 0 < occurrences _chunk (stripe_names set.new.stripes s)) }
@@ -159,6 +161,7 @@ fn settle_chunk<E: Expand>(
     requires marks { (s : ℕ) → s < stripe_count → MarkIsExact set.old.stripes marks.now s chunk }
     ensures memo { E.fits expand.now memo.new }
     ensures view { set.new.view ≡ set.old.view }
+    ensures offered { set.new.offered ≡ set.old.offered }
     ensures fits { AllFit set.new.view.plan set.new.stripes }
     ensures named { IfOk result (λ _. (s : ℕ) → s < stripe_count
         → 0 < occurrences chunk (stripe_names set.new.stripes s)) }
@@ -186,6 +189,7 @@ fn settle_all<E: Expand>(
     requires plan { set.old.view.plan ≡ expanded plan.now (E.call_path expand.now) }
     requires marks { MarksAll (length set.old.view.plan) set.old.stripes marks.now }
     ensures view { set.new.view ≡ set.old.view }
+    ensures offered { set.new.offered ≡ set.old.offered }
     ensures fits { AllFit set.new.view.plan set.new.stripes }
     ensures named { IfOk result (λ _. (c s : ℕ) → c < length set.old.view.plan → s < stripe_count
         → 0 < occurrences c (stripe_names set.new.stripes s)) }
@@ -210,6 +214,7 @@ pub(crate) fn settle_rest<E: Expand>(
 ) -> Result<u64, Memory>
     requires plan { set.old.view.plan ≡ expanded plan.now (E.call_path expand.now) }
     ensures view { set.new.view ≡ set.old.view }
+    ensures offered { set.new.offered ≡ set.old.offered }
     ensures fits { IfOk result (λ _. AllFit set.new.view.plan set.new.stripes) }
     ensures named { IfOk result (λ _. (s c : ℕ) → s < stripe_count → c < length set.old.view.plan
         → occurrences c (stripe_names set.new.stripes s) ≡ 1) }

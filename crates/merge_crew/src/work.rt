@@ -9,9 +9,9 @@ ghost use Rattle.stripe_table.specs.Values.{IsPassOf};
 ghost use Rattle.stripe_table.specs.Views.{chunk_pieces, owes, times_piece};
 ghost use Rattle.stripe_table.specs.declared.view.Hold.TheVariants.{Free};
 ghost use Rattle.thread_cct.specs.Plan.{expanded, pieces_of};
-ghost use Rattle.merge_crew.specs.private.Offers.{OnlyOffers, OffersOnce, OwesRest};
+ghost use Rattle.merge_crew.specs.private.Offers.{OnlyOffers, OffersOnce, OwesLess, OwesRest};
 ghost use Rattle.merge_crew.specs.private.Counts.{Counts, DrewAll, HasEnded, KeepsDraws, KeepsPasses};
-ghost use Rattle.merge_crew.specs.private.Waits.{Waits, first_time, later, offers_left, times_waiting};
+ghost use Rattle.merge_crew.specs.private.Waits.{OffersAll, Waits, first_time, later, offers_left, times_waiting};
 
 use prof_bytes::Memory;
 use prof_devices::Gate;
@@ -25,8 +25,12 @@ use thread_cct::{Pieces, Plan, pieces_make_the_plan};
 /// How often a piece is offered while its stripe is busy.
 const MOST_OFFERS: u32 = 64;
 
+/// How many pieces a worker offers after each chunk: the sixteen that come, and four more. So the offers of a piece whose
+/// stripe is held for long are spread over many chunks, and few are spent before it is put back.
+const OFFERED_AT_ONCE: usize = 20;
+
 /// How many pieces a worker lets wait while it claims more chunks.
-const MOST_WAITING: usize = 64;
+const MOST_WAITING: usize = 256;
 
 /// A piece that its stripe doesn't have yet, and how often it was offered.
 #[derive(Drop)]
@@ -60,6 +64,8 @@ fn offer_once(stripes: &Stripes, pass: &mut Pass, piece: &Piece) -> Offered
     ensures keeps { OnlyOffers pass.old.view pass.new.view }
     ensures offers { OffersOnce pass.old.view pass.new.view result }
     ensures owed { OwesRest piece.now.chunk piece.now.stripe pass.old.view pass.new.view }
+    ensures less { OwesLess piece.now.chunk piece.now.stripe pass.old.view pass.new.view result }
+    ensures pieces { pass.new.offered ≡ pass.old.offered ++ (piece.now.chunk, piece.now.stripe) ∷ [] }
 {
     stripes.offer(pass, piece)
 }
@@ -94,10 +100,12 @@ fn offer_piece<G: Gate>(
     requires room { deque_len queue.old < deque_capacity queue.old }
     requires counts { Counts stripes.now (length queue.old.items + 1) worker.old }
     requires waits { Waits stripes.now.plan (waiting ∷ queue.old.items) worker.old.pass.view worker.old.busy_left }
+    requires offers { OffersAll [] (waiting ∷ queue.old.items) worker.old }
     requires few { worker.old.pass.view.got < 2 ^ 32 }
     ensures counts { Counts stripes.now (length queue.new.items) worker.new }
     ensures waits { Waits stripes.now.plan queue.new.items worker.new.pass.view worker.new.busy_left }
     ensures keeps { KeepsDraws worker.old worker.new }
+    ensures offers { OffersAll [] queue.new.items worker.new }
     ensures fewer { offers_left queue.new.items < offers_left (waiting ∷ queue.old.items) }
 {
     if waiting.offers == 0 {
@@ -124,9 +132,11 @@ fn offer_next<G: Gate>(
 )
     requires counts { Counts stripes.now (length queue.old.items) worker.old }
     requires waits { Waits stripes.now.plan queue.old.items worker.old.pass.view worker.old.busy_left }
+    requires offers { OffersAll [] queue.old.items worker.old }
     requires few { worker.old.pass.view.got < 2 ^ 32 }
     ensures counts { Counts stripes.now (length queue.new.items) worker.new }
     ensures waits { Waits stripes.now.plan queue.new.items worker.new.pass.view worker.new.busy_left }
+    ensures offers { OffersAll [] queue.new.items worker.new }
     ensures keeps { KeepsDraws worker.old worker.new }
     ensures fewer { 0 < length queue.old.items → offers_left queue.new.items < offers_left queue.old.items }
 {
@@ -135,8 +145,8 @@ fn offer_next<G: Gate>(
     }
 }
 
-/// Offers each piece once.
-fn offer_each<G: Gate>(
+/// Offers the pieces that wait longest, no more than `OFFERED_AT_ONCE`.
+fn offer_oldest<G: Gate>(
     stripes: &Stripes,
     worker: &mut Worker,
     queue: &mut VecDeque<Waiting>,
@@ -144,12 +154,14 @@ fn offer_each<G: Gate>(
 )
     requires counts { Counts stripes.now (length queue.old.items) worker.old }
     requires waits { Waits stripes.now.plan queue.old.items worker.old.pass.view worker.old.busy_left }
+    requires offers { OffersAll [] queue.old.items worker.old }
     requires few { worker.old.pass.view.got < 2 ^ 32 }
     ensures counts { Counts stripes.now (length queue.new.items) worker.new }
     ensures waits { Waits stripes.now.plan queue.new.items worker.new.pass.view worker.new.busy_left }
+    ensures offers { OffersAll [] queue.new.items worker.new }
     ensures keeps { KeepsDraws worker.old worker.new }
 {
-    for _ in 0..queue.len() {
+    for _ in 0..queue.len().min(OFFERED_AT_ONCE) {
         offer_next(stripes, worker, queue, gate);
     }
 }
@@ -164,9 +176,11 @@ fn offer_down<G: Gate>(
 )
     requires counts { Counts stripes.now (length queue.old.items) worker.old }
     requires waits { Waits stripes.now.plan queue.old.items worker.old.pass.view worker.old.busy_left }
+    requires offers { OffersAll [] queue.old.items worker.old }
     requires few { worker.old.pass.view.got < 2 ^ 32 }
     ensures counts { Counts stripes.now (length queue.new.items) worker.new }
     ensures waits { Waits stripes.now.plan queue.new.items worker.new.pass.view worker.new.busy_left }
+    ensures offers { OffersAll [] queue.new.items worker.new }
     ensures keeps { KeepsDraws worker.old worker.new }
     ensures down { worker.new.failed ≡ None → length queue.new.items ≤ most }
 {
@@ -186,7 +200,7 @@ fn put_last(queue: &mut VecDeque<Waiting>, pieces: Vec<Piece>) -> Result<(), Mem
     Ok(())
 }
 
-/// Offers all pieces of a chunk, and once more those that wait.
+/// Puts the pieces of a chunk after those that wait, and offers the oldest of all.
 fn offer_chunk<G: Gate>(
     stripes: &Stripes,
     worker: &mut Worker,
@@ -197,6 +211,7 @@ fn offer_chunk<G: Gate>(
 )
     requires counts { Counts stripes.now (length queue.old.items + stripe_count) worker.old }
     requires waits { Waits stripes.now.plan queue.old.items worker.old.pass.view worker.old.busy_left }
+    requires offers { OffersAll (chunk_pieces _chunk stripe_count) queue.old.items worker.old }
     requires owed { (c s : ℕ) → times_waiting c s queue.old.items + times_piece c s (chunk_pieces _chunk stripe_count)
         ≤ owes c s worker.old.pass.view }
     requires chunk { _chunk < length stripes.now.plan }
@@ -204,11 +219,12 @@ fn offer_chunk<G: Gate>(
     requires few { worker.old.pass.view.got < 2 ^ 32 }
     ensures counts { Counts stripes.now (length queue.new.items) worker.new }
     ensures waits { Waits stripes.now.plan queue.new.items worker.new.pass.view worker.new.busy_left }
+    ensures offers { OffersAll [] queue.new.items worker.new }
     ensures keeps { KeepsDraws worker.old worker.new }
 {
     match put_last(queue, pieces.into_vec()) {
         Ok(()) => {
-            offer_each(stripes, worker, queue, gate);
+            offer_oldest(stripes, worker, queue, gate);
             offer_down(stripes, worker, queue, MOST_WAITING, gate);
         }
         Err(memory) => {
@@ -232,6 +248,7 @@ fn merge_chunk<E: Expand, G: Gate>(
 )
     requires counts { Counts stripes.now (length queue.old.items + stripe_count) worker.old }
     requires waits { Waits stripes.now.plan queue.old.items worker.old.pass.view worker.old.busy_left }
+    requires offers { OffersAll (chunk_pieces chunk stripe_count) queue.old.items worker.old }
     requires memo { E.fits expand.now memo.old }
     requires plan { stripes.now.plan ≡ expanded plan.now (E.call_path expand.now) }
     requires owed { (c s : ℕ) → times_waiting c s queue.old.items + times_piece c s (chunk_pieces chunk stripe_count)
@@ -240,6 +257,7 @@ fn merge_chunk<E: Expand, G: Gate>(
     requires few { worker.old.pass.view.got < 2 ^ 32 }
     ensures counts { Counts stripes.now (length queue.new.items) worker.new }
     ensures waits { Waits stripes.now.plan queue.new.items worker.new.pass.view worker.new.busy_left }
+    ensures offers { OffersAll [] queue.new.items worker.new }
     ensures memo { E.fits expand.now memo.new }
     ensures keeps { KeepsDraws worker.old worker.new }
 {
@@ -263,10 +281,12 @@ fn claim_all<E: Expand, G: Gate>(
 )
     requires counts { Counts stripes.now (length queue.old.items) worker.old }
     requires waits { Waits stripes.now.plan queue.old.items worker.old.pass.view worker.old.busy_left }
+    requires offers { OffersAll [] queue.old.items worker.old }
     requires plan { stripes.now.plan ≡ expanded plan.now (E.call_path expand.now) }
     requires none { (worker.old.pass.view.got ≡ 0) × (worker.old.pass.view.over ≡ 0) }
     ensures counts { Counts stripes.now (length queue.new.items) worker.new }
     ensures waits { Waits stripes.now.plan queue.new.items worker.new.pass.view worker.new.busy_left }
+    ensures offers { OffersAll [] queue.new.items worker.new }
     ensures few { worker.new.pass.view.got < 2 ^ 32 }
     ensures past { worker.new.pass.view.over ≤ 1 }
     ensures drew { DrewAll stripes.now worker.new }
@@ -305,7 +325,9 @@ pub(crate) fn work<E: Expand, G: Gate>(
     requires counts { Counts stripes.now 0 worker.old }
     requires plan { stripes.now.plan ≡ expanded plan.now (E.call_path expand.now) }
     requires none { (worker.old.pass.view.got ≡ 0) × (worker.old.pass.view.over ≡ 0) }
+    requires owed { (worker.old.pass.view.owed ≡ []) × (worker.old.pass.offered ≡ []) }
     ensures ended { HasEnded stripes.now worker.new }
+    ensures offers { OffersAll [] [] worker.new }
     ensures keeps { KeepsPasses worker.old worker.new }
 {
     let mut queue = VecDeque::new(alloc);

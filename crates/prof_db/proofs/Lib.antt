@@ -41,6 +41,7 @@ pub mod StoredHeads
 pub mod StoredRules
 pub mod VersionOne
 pub mod StoredPaths
+mod EventEntries
 mod EventLists
 mod HartLists
 mod Ranges

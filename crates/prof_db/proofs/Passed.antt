@@ -8,7 +8,7 @@ use Rattle.prof_db.specs.HeadRules.{head_kept, layout_columns, layout_period}
 use Rattle.prof_db.specs.Layout.{layout_in}
 use Rattle.prof_db.specs.NameRules.{files_kept, names_in, names_kept, procs_kept, used_files, used_procs}
 use Rattle.prof_db.specs.NodeRules.{node_of, nodes_kept}
-use Rattle.prof_db.specs.Rules.{content_in, events_in, nodes_in, planes_in, values_in}
+use Rattle.prof_db.specs.Rules.{content_in, content_of_layout, events_in, nodes_in, planes_in, values_in}
 use Rattle.prof_db.specs.ValueRules.{context_fields, entries_kept, fields_kept, plane_fields, profile_fields, sampled_nodes, statements_kept}
 use Rattle.prof_bytes.proofs.Outcomes.{bind_ok, ok_same}
 
@@ -37,7 +37,7 @@ pub record Passed (layout : Layout) (c : EventContent) : Type 0 where
   pub is : own_content layout ≡ c
 
 pub passed : (bytes : List ℕ) (c : EventContent) → events_in bytes ≡ Ok c → (layout : Layout) × (layout_in bytes ≡ Ok layout) × Passed layout c
-unfolding events_in nodes_in values_in planes_in
+unfolding events_in content_of_layout nodes_in values_in planes_in
 passed bytes c read =
     let a = bind_ok (layout_in bytes) _ _ read in
     let layout : Layout = a.0 in

@@ -39,7 +39,7 @@ use Rattle.prof_db.specs.declared.raw.RawProc.{RawProc}
 use Rattle.prof_db.specs.HeadRules.{event_of, head_kept, layout_columns, layout_period}
 use Rattle.prof_db.specs.NameRules.{file_at, file_breaks, file_name, files_ascend, files_kept, is_among, is_valid_proc, names_in, names_kept, pair_less, proc_at, proc_breaks, proc_id, raw_proc_name, procs_ascend, procs_kept, scope_file, scope_proc, used_files, used_procs}
 use Rattle.prof_db.specs.NodeRules.{in_preorder, in_range, is_placed, is_statement, node_breaks, node_of, nodes_kept, parents_of, raw_node_at}
-use Rattle.prof_db.specs.Rules.{content_in, events_in, layout_values, nodes_in, planes_in, values_in}
+use Rattle.prof_db.specs.Rules.{content_in, content_of_layout, events_in, layout_values, nodes_in, planes_in, values_in}
 use Rattle.prof_db.specs.Spelling.{events_spelling, file_index, proc_index, version_of}
 use Rattle.prof_db.specs.Stored.{IsEventStored, IsNamed}
 use Rattle.prof_db.specs.ValueRules.{context_fields, entry_count, entries_ascend, entries_kept, entry_at, entry_breaks, fields_kept, is_exclusive_entry, is_value, plane_fields, profile_fields, sampled_nodes, entry_samples, statement_breaks, statements_kept, tree_of}
@@ -356,7 +356,7 @@ module _ (c : EventContent) (s : IsEventStored c) (laid : IsLaid c) where
 
 -- what is written of a stored content is read as that content
 pub stored_read : (c : EventContent) → IsEventStored c → events_in (events_spelling c) ≡ Ok c
-unfolding events_in
+unfolding events_in content_of_layout
 stored_read c s =
     let laid = layout_forth c (content_fits c s) in
     rw (laid.1, head_ok c s laid.0, names_ok c s laid.0) (own_nodes_ok c s laid.0)

@@ -58,13 +58,18 @@ nodes_in layout names nodes = do
   done ← nodes_kept (length layout.procs) (length layout.files) layout.nodes nodes
   values_in layout (content_in layout names nodes)
 
+-- the content that a layout says, or the first rule that it breaks
+unfoldable pub content_of_layout : Layout → Result EventContent DbFault
+content_of_layout layout = do
+  done ← head_kept layout.version layout.events layout.runs (length layout.nodes)
+  done ← names_kept layout
+  nodes_in layout (names_in layout) (map (node_of (names_in layout)) layout.nodes)
+
 -- the content that bytes of any version say, or the first of the seven rules that they break
 unfoldable pub events_in : List ℕ → Result EventContent DbFault
 events_in bytes = do
   layout ← layout_in bytes
-  done ← head_kept layout.version layout.events layout.runs (length layout.nodes)
-  done ← names_kept layout
-  nodes_in layout (names_in layout) (map (node_of (names_in layout)) layout.nodes)
+  content_of_layout layout
 
 -- the first rule for version 1 alone
 abbrev pub version_1_kept : List ℕ → RuleCheck

@@ -1,9 +1,10 @@
 //! The values of one event, of those of several: the lists of the nodes that have such values, and those of the event's
 //! columns, with harts in place of columns and with the numbers that these nodes have among themselves.
-ghost use Rattle.std.specs.Prelude.{◌≡◌, ◌+◌, ◌*◌, ◌<◌, ◌^◌, ◌++◌, ◌∷◌, ◌==◌, [], All, length, map};
-ghost use Rattle.std.specs.Prelude.{nat_lt, if◌then◌else◌, IfOk, OnOk};
+ghost use Rattle.std.specs.Prelude.{◌≡◌, ◌+◌, ◌-◌, ◌*◌, ◌<◌, ◌^◌, ◌++◌, ◌∷◌, ◌==◌, [], All, length, map};
+ghost use Rattle.std.specs.Prelude.{min, nat_lt, if◌then◌else◌, IfOk, OnOk};
 ghost use Rattle.std.specs.List.{range_with_len};
 ghost use Rattle.scope_types.specs.Columns.{place_of_column};
+ghost use Rattle.prof_db.specs.private.EventEntries.{entries_of_event};
 ghost use Rattle.prof_db.specs.private.EventLists.{AreEventLists};
 ghost use Rattle.prof_db.specs.private.EventParts.{event_list, event_lists, event_numbers, hart_list};
 ghost use Rattle.prof_db.specs.private.EventParts.{new_number, renumbered_entry};
@@ -103,11 +104,15 @@ fn put_list(
     Ok(())
 }
 
-/// How many entries the columns of the event have together, by which room is asked for.
+/// How many entries the columns of the event have together, by which room is asked for; or 2^64 - 1, where they have
+/// more.
+#[tactic(auto, using(crate::proofs::EventEntries::one_hart_more))]
 pub(crate) fn entry_count(profiles: &ProfilePlane, columns: EventColumns) -> usize
     requires columns { length profiles.now ≡ columns.harts * columns.events }
     requires few { length profiles.now < 2 ^ 32 }
     requires place { columns.place < columns.events }
+    ensures { result
+        ≡ min (entries_of_event columns.events columns.place profiles.now columns.harts) (2 ^ 64 - 1) }
 {
     let mut count = 0usize;
     for hart in 0..columns.harts {

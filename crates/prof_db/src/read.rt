@@ -12,7 +12,7 @@ ghost use Rattle.tree_types.specs.Tree.{IsPreorder, count_order, counts_in};
 ghost use Rattle.prof_db.specs.HeadRules.{events_of, layout_columns, layout_period};
 ghost use Rattle.prof_db.specs.ValueRules.{entries_kept, tree_of};
 ghost use Rattle.prof_db.specs.Rules.{content_in, database_in, layout_values, nodes_in, planes_in, values_in};
-ghost use Rattle.prof_db.specs.Rules.{events_in};
+ghost use Rattle.prof_db.specs.Rules.{content_of_layout, events_in};
 ghost use Rattle.prof_db.specs.private.Heads.{IsHead};
 
 use crate::entry_rules::{counts_in, judge_entries, judge_statements, sampled_nodes};
@@ -144,12 +144,12 @@ fn content_of(
 fn judge_planes(
     alloc: Global,
     layout: &Layout<'_>,
-    content: EventContent,
-) -> Result<EventContent, Fail<DbFault>>
-    requires columns { length content.profiles < 2 ^ 32 }
-    requires nodes { length content.contexts < 2 ^ 32 }
-    requires numbers { length layout.now.nodes ≡ length content.nodes }
-    ensures { Gives (λ c. c) result (planes_in layout.now content) }
+    content: &EventContent,
+) -> Result<(), Fail<DbFault>>
+    requires columns { length content.now.profiles < 2 ^ 32 }
+    requires nodes { length content.now.contexts < 2 ^ 32 }
+    requires numbers { length layout.now.nodes ≡ length content.now.nodes }
+    ensures { Gives (λ done. content.now) result (planes_in layout.now content.now) }
 {
     judge_profiles(&layout.profiles, &content.profiles)?;
     let numbers = sampled_nodes(alloc, layout.entries.items())?;
@@ -159,8 +159,7 @@ fn judge_planes(
         content.nodes.items(),
         numbers.as_slice(),
     )?;
-    judge_contexts(&layout.contexts, &content.contexts)?;
-    Ok(content)
+    Ok(judge_contexts(&layout.contexts, &content.contexts)?)
 }
 
 /// The sixth and the seventh rule.
@@ -181,7 +180,8 @@ fn judge_values(
     let periods = periods_in(alloc, layout)?;
     judge_samples(layout, periods.as_slice(), nodes.as_slice())?;
     let content = content_of(alloc, layout, events, periods.as_slice(), names, nodes)?;
-    judge_planes(alloc, layout, content)
+    judge_planes(alloc, layout, &content)?;
+    Ok(content)
 }
 
 /// The fifth rule, and those after it.
@@ -203,17 +203,25 @@ fn judge_tree(
     judge_values(alloc, layout, names, nodes)
 }
 
+/// What the layout of a database says.
+#[tactic(auto, unfolding(crate::specs::Rules::content_of_layout))]
+fn content_of_layout(alloc: Global, layout: &Layout<'_>) -> Result<EventContent, Fail<DbFault>>
+    ensures { Gives (λ c. c) result (content_of_layout layout.now) }
+{
+    judge_head(layout)?;
+    judge_names(alloc, layout)?;
+    let names = names_of(alloc, layout)?;
+    let nodes = nodes_of(alloc, &names, layout.nodes.items())?;
+    judge_tree(alloc, layout, names, nodes)
+}
+
 /// What the bytes of a database say.
 #[tactic(auto, unfolding(crate::specs::Rules::events_in))]
 fn read_content(alloc: Global, bytes: &[u8]) -> Result<EventContent, Fail<DbFault>>
     ensures { Gives (λ c. c) result (events_in bytes.now) }
 {
     let layout = read_layout(alloc, bytes)?;
-    judge_head(&layout)?;
-    judge_names(alloc, &layout)?;
-    let names = names_of(alloc, &layout)?;
-    let nodes = nodes_of(alloc, &names, layout.nodes.items())?;
-    judge_tree(alloc, &layout, names, nodes)
+    content_of_layout(alloc, &layout)
 }
 
 /// The content of a database of any version, which a profile of several events may have; or the first of the seven

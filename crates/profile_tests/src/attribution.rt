@@ -1,8 +1,10 @@
 //! Reports of programs with debug information: inlined procedures, source lines, and what has neither. The reports are
 //! written by hand from the entries and the rows of the line tables.
-use crate::debug_programs::{WITH_ENTRIES, WITH_INLINES, WITH_OLDER_UNITS};
-use crate::runs::{RUN, Run, other_run};
 use std::test::Fail;
+use test_programs::debug_programs::{WITH_ENTRIES, WITH_INLINES, WITH_OLDER_UNITS};
+use test_programs::products::SOURCE_LINES;
+use test_programs::rows::no_row;
+use test_runs::runs::{RUN, Run, other_run};
 
 /// Inlined code in two pieces and of two levels; the entries have calls, and the line table three rows.
 const INLINED: &str = "\
@@ -23,18 +25,6 @@ hart 0 retired 20 samples 10 end exit 19
                2   10.0                2      0x0001003c
                2   10.0                2      0x00010044
                2   10.0                2      0x0001004c
-";
-
-/// Two rows at one address, and the end of a sequence right at a sample.
-pub(crate) const LINES: &str = "\
-harts 1 period 1 samples 7 total 7
-hart 0 retired 7 samples 7 end stopped
-       inclusive      %            frame  scope
-               7  100.0                0  <thread root>
-               7  100.0                7    <unknown procedure>
-               2   28.5                2      /s/a.c:7
-               4   57.1                4      /s/a.c:8
-               1   14.2                1      0x00010018
 ";
 
 /// Units of older versions are passed over.
@@ -84,7 +74,7 @@ static RUNS: [Run; 5] = [
         file: WITH_ENTRIES,
         words: "profile p i s 1 1 d",
         schedule: b"harts 1\n0 7\n",
-        report: LINES,
+        report: SOURCE_LINES,
         ..RUN
     },
     Run {
@@ -98,6 +88,5 @@ static RUNS: [Run; 5] = [
 
 #[test]
 fn reports_of_programs_with_debug_information(rt: HostRuntime) -> Result<(), Fail> {
-    assert_eq!(rt; other_run(&rt, &RUNS)?, None);
-    Ok(())
+    no_row(other_run(&rt, &RUNS)?)
 }

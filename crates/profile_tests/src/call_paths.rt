@@ -1,46 +1,19 @@
 //! Call paths of programs with symbols and call frame information, as reports; programs and reports are written
 //! by hand from the formats. A path that is cut at 512 frames is tried with the built program alone
 //! (`.ci/checks`): before they are proved tests are interpreted, and its 1,025 nodes then take more than a minute.
-use crate::databases::EMPTY_DATABASE;
-use crate::programs::{ADDING, program};
 use crate::reports::NO_SAMPLES;
-use crate::runs::{RUN, Run, other_run};
 use hpc_top::{Job, Made, profile};
 use merge_crew::{Crews, WorkCrew};
 use prof_devices::OpenGate;
 use scope_types::{Event, EventPeriod};
 use std::test::Fail;
 use std::thread::Threads;
-
-/// `_start` calls `f`, which calls itself five times. `.debug_frame` stands at 132.
-pub(crate) const RECURSION: &[u8] = b"\
-\x7fELF\x01\x01\x01\0\0\0\0\0\0\0\0\0\x02\0\xf3\0\x01\0\0\0\0\0\x01\04\0\0\0\x12\x01\0\0\0\0\
-\0\04\0 \0\x01\0(\0\x05\0\x04\0\x01\0\0\0T\0\0\0\0\0\x01\0\0\0\x01\00\0\0\00\0\0\0\x05\0\0\0\
-\x04\0\0\0\x13\x05P\0\xef\0\xc0\0\x93\x08\xd0\x05s\0\0\0\x13\x01\x01\xff#&\x11\0c\x06\x05\0\
-\x13\x05\xf5\xff\xef\xf0\x1f\xff\x83 \xc1\0\x13\x01\x01\x01g\x80\0\0\x0c\0\0\0\xff\xff\xff\
-\xff\x03\0\x01|\x01\x0c\x02\0\x18\0\0\0\0\0\0\0\x10\0\x01\0 \0\0\0D\x0e\x10D\x81\x01P\xc1D\
-\x0e\0\0\0\0\0\0\0\0\0\0\0\0\0\0\0\0\0\0\x01\0\0\0\0\0\x01\0\x10\0\0\0\x12\0\xf1\xff\x08\0\0\
-\0\x10\0\x01\0 \0\0\0\x12\0\xf1\xff\0_start\0f\0\0.debug_frame\0.symtab\0.strtab\0.shstrtab\
-\0\0\0\0\0\0\0\0\0\0\0\0\0\0\0\0\0\0\0\0\0\0\0\0\0\0\0\0\0\0\0\0\0\0\0\0\0\0\0\0\0\x01\0\0\0\
-\x01\0\0\0\0\0\0\0\0\0\0\0\x84\0\0\0,\0\0\0\0\0\0\0\0\0\0\0\0\0\0\0\0\0\0\0\x0e\0\0\0\x02\0\
-\0\0\0\0\0\0\0\0\0\0\xb0\0\0\00\0\0\0\x03\0\0\0\x01\0\0\0\0\0\0\0\x10\0\0\0\x16\0\0\0\x03\0\
-\0\0\0\0\0\0\0\0\0\0\xe0\0\0\0\x0a\0\0\0\0\0\0\0\0\0\0\0\0\0\0\0\0\0\0\0\x1e\0\0\0\x03\0\0\0\
-\0\0\0\0\0\0\0\0\xea\0\0\0(\0\0\0\0\0\0\0\0\0\0\0\0\0\0\0\0\0\0\0";
-
-/// The same with `.eh_frame`, at 132, in place of `.debug_frame`.
-pub(crate) const RECURSION_WITH_EH_FRAME: &[u8] = b"\
-\x7fELF\x01\x01\x01\0\0\0\0\0\0\0\0\0\x02\0\xf3\0\x01\0\0\0\0\0\x01\04\0\0\0\x17\x01\0\0\0\0\
-\0\04\0 \0\x01\0(\0\x05\0\x04\0\x01\0\0\0T\0\0\0\0\0\x01\0\0\0\x01\00\0\0\00\0\0\0\x05\0\0\0\
-\x04\0\0\0\x13\x05P\0\xef\0\xc0\0\x93\x08\xd0\x05s\0\0\0\x13\x01\x01\xff#&\x11\0c\x06\x05\0\
-\x13\x05\xf5\xff\xef\xf0\x1f\xff\x83 \xc1\0\x13\x01\x01\x01g\x80\0\0\x10\0\0\0\0\0\0\0\x01zR\
-\0\x01|\x01\x01\x1b\x0c\x02\0\x18\0\0\0\x18\0\0\0\xf4\xff\0\0 \0\0\0\0D\x0e\x10D\x81\x01P\
-\xc1D\x0e\0\0\0\0\0\0\0\0\0\0\0\0\0\0\0\0\0\0\0\0\0\x01\0\0\0\0\0\x01\0\x10\0\0\0\x12\0\xf1\
-\xff\x08\0\0\0\x10\0\x01\0 \0\0\0\x12\0\xf1\xff\0_start\0f\0\0.eh_frame\0.symtab\0.strtab\0.\
-shstrtab\0\0\0\0\0\0\0\0\0\0\0\0\0\0\0\0\0\0\0\0\0\0\0\0\0\0\0\0\0\0\0\0\0\0\0\0\0\0\0\0\0\
-\x01\0\0\0\x01\0\0\0\0\0\0\0\0\0\0\0\x84\0\0\04\0\0\0\0\0\0\0\0\0\0\0\0\0\0\0\0\0\0\0\x0b\0\
-\0\0\x02\0\0\0\0\0\0\0\0\0\0\0\xb8\0\0\00\0\0\0\x03\0\0\0\x01\0\0\0\0\0\0\0\x10\0\0\0\x13\0\
-\0\0\x03\0\0\0\0\0\0\0\0\0\0\0\xe8\0\0\0\x0a\0\0\0\0\0\0\0\0\0\0\0\0\0\0\0\0\0\0\0\x1b\0\0\0\
-\x03\0\0\0\0\0\0\0\0\0\0\0\xf2\0\0\0%\0\0\0\0\0\0\0\0\0\0\0\0\0\0\0\0\0\0\0";
+use test_programs::databases::EMPTY_DATABASE;
+use test_programs::debug_programs::{RECURSION, RECURSION_WITH_EH_FRAME};
+use test_programs::files::{ADDING, program};
+use test_programs::products::SEVEN_FRAMES;
+use test_programs::rows::no_row;
+use test_runs::runs::{RUN, Run, other_run};
 
 /// `_start` calls `g`, which calls `h` at its end, so that the return address is where `h` begins.
 const LAST_CALL: &[u8] = b"\
@@ -56,28 +29,6 @@ o\xf0\xdf\xff\x0c\0\0\0\xff\xff\xff\xff\x03\0\x01|\x01\x0c\x02\0\x14\0\0\0\0\0\0
 \0\0\0\0\x0e\0\0\0\x02\0\0\0\0\0\0\0\0\0\0\0\xac\0\0\0@\0\0\0\x03\0\0\0\x01\0\0\0\0\0\0\0\
 \x10\0\0\0\x16\0\0\0\x03\0\0\0\0\0\0\0\0\0\0\0\xec\0\0\0\x0c\0\0\0\0\0\0\0\0\0\0\0\0\0\0\0\0\
 \0\0\0\x1e\0\0\0\x03\0\0\0\0\0\0\0\0\0\0\0\xf8\0\0\0(\0\0\0\0\0\0\0\0\0\0\0\0\0\0\0\0\0\0\0";
-
-/// One path of seven frames.
-pub(crate) const SEVEN_FRAMES: &str = "\
-harts 1 period 31 samples 1 total 31
-hart 0 retired 49 samples 1 end exit 0
-       inclusive      %            frame  scope
-              31  100.0                0  <thread root>
-              31  100.0                0    _start
-              31  100.0                0      call at 0x00010004
-              31  100.0                0        f
-              31  100.0                0          call at 0x00010020
-              31  100.0                0            f
-              31  100.0                0              call at 0x00010020
-              31  100.0                0                f
-              31  100.0                0                  call at 0x00010020
-              31  100.0                0                    f
-              31  100.0                0                      call at 0x00010020
-              31  100.0                0                        f
-              31  100.0                0                          call at 0x00010020
-              31  100.0               31                            f
-              31  100.0               31                              0x00010024
-";
 
 /// A sample before x2 moves and one right after have the same caller.
 const MOVED_FRAME: &str = "\
@@ -188,8 +139,7 @@ pub(crate) fn made<C: Crews>(
 
 #[test]
 fn call_paths_of_programs(rt: HostRuntime) -> Result<(), Fail> {
-    assert_eq!(rt; other_run(&rt, &RUNS)?, None);
-    Ok(())
+    no_row(other_run(&rt, &RUNS)?)
 }
 
 #[test]

@@ -1,8 +1,8 @@
 //! `profile` by a crew that hands out stripes that nobody filled: its database and table are of no samples.
 use crate::call_paths::made;
-use crate::programs::{ADDING, program};
 use std::test::Fail;
 use test_crews::EmptyCrew;
+use test_programs::files::{ADDING, program};
 
 /// The database without nodes of a period of 5.
 const NO_NODES: &[u8] = b"HPCPROF1\x05\0\0\0\x01\0\0\0\0\0\0\0\0\0\0\0\0\0\0\0\0\0\0\0";

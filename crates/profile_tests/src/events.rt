@@ -1,20 +1,17 @@
 //! Several events in one run: reports, databases and views of a recursion whose loads, stores and branches are known. The
 //! reports and the database's head are written by hand from their layout.
-use crate::call_paths::RECURSION;
-use crate::databases::database_of_four;
-use crate::measurements::TABLE;
-use crate::programs::{
-    ADDING, changed, database_alone, files, is_refused, program, put_by, puts_over,
-};
-use crate::reports::FOUR_SAMPLES;
-use crate::runs::{RUN, Run, other_run};
 use hpc_top::{InputFault, Status};
 use prof_bytes::Text;
-use prof_devices::SureShelf;
 use scope_types::Event;
-use std::alloc::Global;
 use std::test::Fail;
 use std::thread::Threads;
+use test_programs::databases::DATABASE_OF_FOUR;
+use test_programs::debug_programs::RECURSION;
+use test_programs::files::{ADDING, ONE_HART, changed, database_alone, files, program};
+use test_programs::products::{FOUR_SAMPLES, FOUR_TABLE};
+use test_programs::rows::no_row;
+use test_runs::answers::{is_refused, put_by, puts_over};
+use test_runs::runs::{RUN, Run, other_run};
 
 /// The instruction before the exit call, and the branch that ends the recursion.
 const RETIRED_AND_TAKEN: &str = "\
@@ -173,8 +170,7 @@ static RUNS: [Run; 3] = [
 
 #[test]
 fn reports_of_events(rt: HostRuntime) -> Result<(), Fail> {
-    assert_eq!(rt; other_run(&rt, &RUNS)?, None);
-    Ok(())
+    no_row(other_run(&rt, &RUNS)?)
 }
 
 /// The database that a profile of this program stores, with no input.
@@ -183,8 +179,7 @@ pub(crate) fn stored_by(
     elf: &[u8],
     words: &str,
 ) -> Result<Vec<u8>, Fail> {
-    let files = files(rt.alloc(), elf, b"", b"harts 1\n0 100000\n")?;
-    let mut shelf = SureShelf::of(rt.alloc(), files);
+    let mut shelf = files(rt.alloc(), elf, b"", ONE_HART)?.sure(rt.alloc());
     let _: Text = put_by(rt, words, &mut shelf)?;
     let stored = shelf.file(b"d").ok_or("no database")?;
     Ok(Vec::from_slice(rt.alloc(), stored)?)
@@ -207,8 +202,7 @@ fn the_database_of_two_events(rt: HostRuntime) -> Result<(), Fail> {
 fn retired_alone_has_the_first_version(rt: HostRuntime) -> Result<(), Fail> {
     let elf = program(rt.alloc(), &ADDING)?;
     let database = stored_by(&rt, elf.as_slice(), "profile p i s retired:5 1 d")?;
-    let wanted = database_of_four(rt.alloc())?;
-    assert!(rt; database.as_slice() == wanted.as_slice());
+    assert!(rt; database.as_slice() == DATABASE_OF_FOUR);
     Ok(())
 }
 
@@ -236,18 +230,12 @@ fn other_view(
 #[test]
 fn views_of_events(rt: HostRuntime) -> Result<(), Fail> {
     let database = stored_by(&rt, RECURSION, TWO_EVENTS.words)?;
-    assert_eq!(rt; other_view(&rt, database.as_slice(), &VIEWS)?, None);
-    Ok(())
+    no_row(other_view(&rt, database.as_slice(), &VIEWS)?)
 }
 
 #[test]
 fn a_view_of_retired_by_its_name(rt: HostRuntime) -> Result<(), Fail> {
-    let database = database_of_four(rt.alloc())?;
-    assert_eq!(rt;
-        other_view(&rt, database.as_slice(), &[("view d top retired", TABLE)])?,
-        None
-    );
-    Ok(())
+    no_row(other_view(&rt, DATABASE_OF_FOUR, &[("view d top retired", FOUR_TABLE)])?)
 }
 
 /// Whether a view of this database is refused so.

@@ -1,16 +1,16 @@
 //! `live`: its reports and databases, which are those of `profile`, whatever the length of an epoch and the number of
-//! workers; and its calls of devices that fail.
-use crate::databases::database_of_four;
-use crate::programs::{ADDING, answer, files, program, put_by};
-use crate::reports::FOUR_SAMPLES;
-use crate::runs::{RUN, Run, other_run};
+//! workers.
 use guest_gen::guest;
-use hpc_top::{Place, Status};
-use prof_bytes::Text;
-use prof_devices::{MemShelf, MemSink, SureShelf, SureSink};
+use prof_devices::SureShelf;
 use std::alloc::Global;
 use std::test::Fail;
 use std::thread::Threads;
+use test_programs::databases::DATABASE_OF_FOUR;
+use test_programs::files::{ADDING, adding_files, files};
+use test_programs::products::FOUR_SAMPLES;
+use test_programs::rows::no_row;
+use test_runs::answers::put_by;
+use test_runs::runs::{RUN, Run, other_run};
 
 /// A jump to itself.
 const SPIN: [u32; 1] = [0x0000_006f];
@@ -108,8 +108,7 @@ static RUNS: [Run; 6] = [
 
 #[test]
 fn reports_of_runs_that_are_merged_while_they_go_on(rt: HostRuntime) -> Result<(), Fail> {
-    assert_eq!(rt; other_run(&rt, &RUNS)?, None);
-    Ok(())
+    no_row(other_run(&rt, &RUNS)?)
 }
 
 /// Whether `live` puts what `profile` puts, and stores in `e` what that stores in `d`.
@@ -133,7 +132,7 @@ fn guest_shelf(alloc: Global) -> Result<SureShelf, Fail> {
         made.input.bytes(),
         made.schedule.bytes(),
     )?;
-    Ok(SureShelf::of(alloc, files))
+    Ok(files.sure(alloc))
 }
 
 #[test]
@@ -152,8 +151,7 @@ fn twenty_epochs_of_a_guest_are_its_profile(rt: HostRuntime) -> Result<(), Fail>
 
 #[test]
 fn four_samples_are_their_profile(rt: HostRuntime) -> Result<(), Fail> {
-    let database = database_of_four(rt.alloc())?;
-    let mut shelf = SureShelf::of(rt.alloc(), adding_files(rt.alloc())?);
+    let mut shelf = adding_files(rt.alloc())?.sure(rt.alloc());
     assert!(rt;
         is_same(
             &rt,
@@ -162,124 +160,6 @@ fn four_samples_are_their_profile(rt: HostRuntime) -> Result<(), Fail> {
             &mut shelf
         )?
     );
-    assert!(rt; shelf.file(b"e") == Some(database.as_slice()));
-    Ok(())
-}
-
-/// The files of the adding program's run; in `d` is what was there before.
-fn adding_files(alloc: Global) -> Result<Vec<(Text, Text)>, Fail> {
-    let elf = program(alloc, &ADDING)?;
-    files(alloc, elf.as_slice(), b"", b"harts 1\n0 100000\n")
-}
-
-/// Calls of a `live` of four samples that fail: which of the shelf and which of the output, and how many bytes such a
-/// call keeps; the answer; and how many bytes of the database are stored, if any, and of the report put.
-struct Failure {
-    name: &'static str,
-    shelf_call: u64,
-    print_call: u64,
-    kept: usize,
-    status: Status,
-    stored: Option<usize>,
-    put: usize,
-}
-
-/// The program, the input or the schedule is not read.
-const NOT_READ: Failure = Failure {
-    name: "",
-    shelf_call: 1,
-    print_call: 0,
-    kept: 3,
-    status: Status::Device(Place::Read),
-    stored: None,
-    put: 0,
-};
-
-static FAILURES: [Failure; 7] = [
-    Failure {
-        name: "the program is not read",
-        ..NOT_READ
-    },
-    Failure {
-        name: "the input is not read",
-        shelf_call: 2,
-        ..NOT_READ
-    },
-    Failure {
-        name: "the schedule is not read",
-        shelf_call: 3,
-        ..NOT_READ
-    },
-    Failure {
-        name: "a front of the database is stored",
-        shelf_call: 4,
-        kept: 10,
-        status: Status::Device(Place::Store),
-        stored: Some(10),
-        ..NOT_READ
-    },
-    Failure {
-        name: "an empty database is stored",
-        shelf_call: 4,
-        kept: 0,
-        status: Status::Device(Place::Store),
-        stored: Some(0),
-        ..NOT_READ
-    },
-    Failure {
-        name: "a front of the report is put",
-        shelf_call: 0,
-        print_call: 1,
-        kept: 7,
-        status: Status::Device(Place::Print),
-        stored: Some(usize::MAX),
-        put: 7,
-    },
-    Failure {
-        name: "nothing is fetched, stored or put twice",
-        shelf_call: 5,
-        print_call: 2,
-        kept: 3,
-        status: Status::Done,
-        stored: Some(usize::MAX),
-        put: usize::MAX,
-    },
-];
-
-/// So many bytes at the front.
-fn front(bytes: &[u8], length: usize) -> &[u8] {
-    &bytes[..length.min(bytes.len())]
-}
-
-/// Whether a call fails as its row says.
-fn is_failure(rt: &(impl Threads + Sync + AllocGlobal), row: &Failure) -> Result<bool, Fail> {
-    let database = database_of_four(rt.alloc())?;
-    let failing = Vec::from_slice(rt.alloc(), &[row.shelf_call])?;
-    let mut shelf = MemShelf::of(rt.alloc(), adding_files(rt.alloc())?, failing, row.kept);
-    let prints = Vec::from_slice(rt.alloc(), &[row.print_call])?;
-    let mut out = MemSink::of(rt.alloc(), prints, row.kept);
-    let mut err = SureSink::new(rt.alloc());
-    let status = answer(rt, "live p i s 5 1 1024 d", &mut shelf, &mut out, &mut err)?;
-    let stored = match row.stored {
-        Some(length) => front(database.as_slice(), length),
-        None => b"before".as_slice(),
-    };
-    let is_put = out.taken() == front(FOUR_SAMPLES.as_bytes(), row.put);
-    Ok(status == row.status && shelf.file(b"d") == Some(stored) && is_put)
-}
-
-/// The first row with another outcome.
-fn other_failure(rt: &(impl Threads + Sync + AllocGlobal)) -> Result<Option<&'static str>, Fail> {
-    for row in &FAILURES {
-        if !is_failure(rt, row)? {
-            return Ok(Some(row.name));
-        }
-    }
-    Ok(None)
-}
-
-#[test]
-fn calls_of_live_that_fail(rt: HostRuntime) -> Result<(), Fail> {
-    assert_eq!(rt; other_failure(&rt)?, None);
+    assert!(rt; shelf.file(b"e") == Some(DATABASE_OF_FOUR));
     Ok(())
 }

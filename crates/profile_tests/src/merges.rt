@@ -1,17 +1,19 @@
 //! Several measurements in one database: what `merge` stores and puts, what it refuses and in which order, and the
 //! measurement of several events. The measurements are written by hand from the layout of the file.
-use crate::call_paths::RECURSION;
 use crate::events::{EVENT_TABLES, TWO_EVENTS, stored_by};
-use crate::measurements::{FOUR_PATHS, files_of, files_with};
-use crate::programs::{
-    ADDING, BRANCHING, changed, file, files, is_refused, program, put_by, put_word, puts,
-};
 use hpc_top::{InputFault, MergeFault, Status};
 use prof_bytes::Text;
 use prof_devices::SureShelf;
 use std::alloc::Global;
 use std::test::Fail;
 use std::thread::Threads;
+use test_programs::debug_programs::RECURSION;
+use test_programs::files::{
+    ADDING, BRANCHING, NamedFiles, changed, files, files_of, files_with, program, put_word,
+};
+use test_programs::products::FOUR_PATHS;
+use test_programs::rows::no_row;
+use test_runs::answers::{is_refused, put_by, puts};
 
 /// The table of the four samples, taken twice.
 const TWICE: &str = "       inclusive      %            frame  scope
@@ -37,7 +39,7 @@ fn is_of_two_runs(database: Option<&[u8]>) -> bool {
 
 #[test]
 fn a_measurement_is_merged_with_itself(rt: HostRuntime) -> Result<(), Fail> {
-    let mut shelf = SureShelf::of(rt.alloc(), files_of(rt.alloc(), &ADDING, FOUR_PATHS)?);
+    let mut shelf = files_of(rt.alloc(), &ADDING, FOUR_PATHS)?.sure(rt.alloc());
     assert!(rt; puts(&rt, "merge p 2 d m m", &mut shelf, TWICE)?);
     assert!(rt; is_of_two_runs(shelf.file(b"d")));
     Ok(())
@@ -45,7 +47,7 @@ fn a_measurement_is_merged_with_itself(rt: HostRuntime) -> Result<(), Fail> {
 
 #[test]
 fn a_database_of_two_runs_is_viewed(rt: HostRuntime) -> Result<(), Fail> {
-    let mut shelf = SureShelf::of(rt.alloc(), files_of(rt.alloc(), &ADDING, FOUR_PATHS)?);
+    let mut shelf = files_of(rt.alloc(), &ADDING, FOUR_PATHS)?.sure(rt.alloc());
     let _: Text = put_by(&rt, "merge p 1 d m m", &mut shelf)?;
     assert!(rt; puts(&rt, "view d top", &mut shelf, TWICE)?);
     Ok(())
@@ -57,7 +59,7 @@ fn made(
     words: &str,
     measurement: &[u8],
 ) -> Result<Vec<u8>, Fail> {
-    let mut shelf = SureShelf::of(rt.alloc(), files_of(rt.alloc(), &ADDING, measurement)?);
+    let mut shelf = files_of(rt.alloc(), &ADDING, measurement)?.sure(rt.alloc());
     let text = put_by(rt, words, &mut shelf)?;
     let mut both = Vec::from_slice(rt.alloc(), text.bytes())?;
     both.extend_from_slice(shelf.file(b"d").ok_or("no database")?)?;
@@ -82,21 +84,27 @@ event retired period 49 samples 1 total 49
 event taken period 1 samples 1 total 1
 ";
 
+/// Whether a run of two events puts its lines, and stores a measurement of 104 bytes.
+fn is_run(rt: &(impl Threads + Sync + AllocGlobal), shelf: &mut SureShelf) -> Result<bool, Fail> {
+    let is_put = puts(rt, "run p i s retired:49,taken:1 m", shelf, EVENT_LINES)?;
+    match shelf.file(b"m") {
+        Some(measurement) => Ok(is_put && measurement.len() == 104),
+        None => Ok(false),
+    }
+}
+
+/// Whether that run's attribution puts the tables of both events, and stores this database.
+fn is_attributed(rt: &(impl Threads + Sync + AllocGlobal), database: &[u8]) -> Result<bool, Fail> {
+    let mut shelf = files_with(rt.alloc(), RECURSION, b"before")?.sure(rt.alloc());
+    let is_kept = is_run(rt, &mut shelf)?;
+    let is_put = puts(rt, "prof p m 2 d", &mut shelf, EVENT_TABLES)?;
+    Ok(is_kept && is_put && shelf.file(b"d") == Some(database))
+}
+
 #[test]
 fn a_run_of_two_events_and_its_attribution(rt: HostRuntime) -> Result<(), Fail> {
     let database = stored_by(&rt, RECURSION, TWO_EVENTS.words)?;
-    let mut shelf = SureShelf::of(rt.alloc(), files_with(rt.alloc(), RECURSION, b"before")?);
-    assert!(rt;
-        puts(
-            &rt,
-            "run p i s retired:49,taken:1 m",
-            &mut shelf,
-            EVENT_LINES
-        )?
-    );
-    assert_eq!(rt; shelf.file(b"m").map(|bytes| bytes.len()), Some(104));
-    assert!(rt; puts(&rt, "prof p m 2 d", &mut shelf, EVENT_TABLES)?);
-    assert!(rt; shelf.file(b"d") == Some(database.as_slice()));
+    assert!(rt; is_attributed(&rt, database.as_slice())?);
     Ok(())
 }
 
@@ -207,16 +215,27 @@ static REFUSED: [Refused; 7] = [
     },
 ];
 
-/// The files of two measurements.
-fn files_of_two(alloc: Global, row: &Refused) -> Result<Vec<(Text, Text)>, Fail> {
+/// The program of a row.
+fn program_of(alloc: Global, row: &Refused) -> Result<Vec<u8>, Fail> {
     let elf = program(alloc, row.code)?;
-    let elf = changed(alloc, elf.as_slice(), row.program)?;
+    changed(alloc, &elf, row.program)
+}
+
+/// The files of two measurements.
+fn files_of_two(alloc: Global, row: &Refused) -> Result<NamedFiles, Fail> {
+    let elf = program_of(alloc, row)?;
     let first = changed(alloc, FOUR_PATHS, row.first)?;
     let kept = FOUR_PATHS.get(..row.kept).unwrap_or(FOUR_PATHS);
     let second = changed(alloc, kept, row.second)?;
-    let mut files = files_with(alloc, elf.as_slice(), first.as_slice())?;
-    files.push(file(alloc, b"n", second.as_slice())?)?;
-    Ok(files)
+    NamedFiles::of(
+        alloc,
+        &[
+            (b"p", &elf),
+            (b"d", b"before"),
+            (b"m", &first),
+            (b"n", &second),
+        ],
+    )
 }
 
 /// Whether two measurements are refused so, and nothing is stored or put.
@@ -238,8 +257,7 @@ fn other_refused(rt: &(impl Threads + Sync + AllocGlobal)) -> Result<Option<&'st
 
 #[test]
 fn measurements_that_are_not_merged(rt: HostRuntime) -> Result<(), Fail> {
-    assert_eq!(rt; other_refused(&rt)?, None);
-    Ok(())
+    no_row(other_refused(&rt)?)
 }
 
 // ---- frames
@@ -296,11 +314,15 @@ hart 63 retired 5 samples 1 end stopped
                5  100.0                5      0x00010010
 ";
 
+/// The adding program under this schedule.
+fn scheduled(alloc: Global, schedule: &[u8]) -> Result<NamedFiles, Fail> {
+    let elf = program(alloc, &ADDING)?;
+    files(alloc, &elf, b"", schedule)
+}
+
 #[test]
 fn the_last_of_64_harts_is_sampled(rt: HostRuntime) -> Result<(), Fail> {
-    let elf = program(rt.alloc(), &ADDING)?;
-    let own = files(rt.alloc(), elf.as_slice(), b"", b"harts 64\n63 5\n")?;
-    let mut shelf = SureShelf::of(rt.alloc(), own);
+    let mut shelf = scheduled(rt.alloc(), b"harts 64\n63 5\n")?.sure(rt.alloc());
     let report = put_by(&rt, "profile p i s 5 1 d", &mut shelf)?;
     assert!(rt;
         report
@@ -313,8 +335,7 @@ fn the_last_of_64_harts_is_sampled(rt: HostRuntime) -> Result<(), Fail> {
 
 #[test]
 fn more_harts_than_a_run_may_have(rt: HostRuntime) -> Result<(), Fail> {
-    let elf = program(rt.alloc(), &ADDING)?;
-    let own = files(rt.alloc(), elf.as_slice(), b"", b"harts 65\n64 5\n")?;
+    let own = scheduled(rt.alloc(), b"harts 65\n64 5\n")?;
     let status = Status::Input(InputFault::Schedule { line: 1 });
     assert!(rt;
         is_refused(

@@ -2,22 +2,12 @@
 //! way in which a hart ends. The reports are written by hand from their layout. That 1,048,576 samples are
 //! taken and one more is refused is tried with the built program alone (`.ci/checks`): before they are proved
 //! tests are interpreted, and a run of that many samples then takes minutes.
-use crate::programs::{ADDING, BRANCHING, ECHO, GROUP};
-use crate::runs::{RUN, Run, other_run, reports};
 use std::test::Fail;
 use std::thread::Threads;
-
-pub(crate) const FOUR_SAMPLES: &str = "\
-harts 1 period 5 samples 4 total 20
-hart 0 retired 20 samples 4 end exit 19
-       inclusive      %            frame  scope
-              20  100.0                0  <thread root>
-              20  100.0               20    <unknown procedure>
-               5   25.0                5      0x00010010
-               5   25.0                5      0x00010024
-               5   25.0                5      0x00010038
-               5   25.0                5      0x0001004c
-";
+use test_programs::files::{ADDING, BRANCHING, ECHO, GROUP};
+use test_programs::products::FOUR_SAMPLES;
+use test_programs::rows::no_row;
+use test_runs::runs::{RUN, Run, other_run, reports};
 
 pub(crate) const NO_SAMPLES: &str = "\
 harts 1 period 21 samples 0 total 0
@@ -169,8 +159,7 @@ static RUNS: [Run; 8] = [
 
 #[test]
 fn reports_of_runs(rt: HostRuntime) -> Result<(), Fail> {
-    assert_eq!(rt; other_run(&rt, &RUNS)?, None);
-    Ok(())
+    no_row(other_run(&rt, &RUNS)?)
 }
 
 /// A program's words, and the line on its one hart: how a hart ends otherwise.
@@ -228,6 +217,5 @@ fn other_end(rt: &(impl Threads + Sync + AllocGlobal)) -> Result<Option<&'static
 
 #[test]
 fn other_ends_of_a_hart(rt: HostRuntime) -> Result<(), Fail> {
-    assert_eq!(rt; other_end(&rt)?, None);
-    Ok(())
+    no_row(other_end(&rt)?)
 }

@@ -1,12 +1,14 @@
 //! That the workers of each command that merges are at work at once.
-use crate::drills::LINES;
-use crate::programs::{files, program, put_by, words_of};
 use hpc_top::{Status, hpc_main};
 use prof_bytes::Text;
 use prof_devices::{Gate, SureShelf, SureSink};
 use std::sync::atomic::{AtomicBool, AtomicU32, Ordering};
 use std::test::Fail;
 use std::thread::Threads;
+use test_programs::files::{NamedFiles, files, program, words_of};
+use test_programs::products::DRILL_LINES;
+use test_programs::rows::no_row;
+use test_runs::answers::put_by;
 
 /// Lets each worker wait at the first piece that it offers until all have come, for at most 2,000,000,000 turns. Once
 /// one has waited in vain, no other waits.
@@ -57,7 +59,7 @@ static STRAIGHT: [u32; 1000] = [0x0015_0513; 1000];
 fn straight_shelf(rt: &(impl Threads + Sync + AllocGlobal)) -> Result<SureShelf, Fail> {
     let elf = program(rt.alloc(), &STRAIGHT)?;
     let files = files(rt.alloc(), elf.as_slice(), b"", b"harts 1\n0 1000\n")?;
-    let mut shelf = SureShelf::of(rt.alloc(), files);
+    let mut shelf = files.sure(rt.alloc());
     put_by(rt, "run p i s 1 m", &mut shelf)?;
     Ok(shelf)
 }
@@ -124,13 +126,11 @@ fn other_merge(
 #[test]
 fn workers_run_side_by_side(rt: HostRuntime) -> Result<(), Fail> {
     let mut shelf = straight_shelf(&rt)?;
-    assert_eq!(rt; other_merge(&rt, &MERGES, &mut shelf, None)?, None);
-    Ok(())
+    no_row(other_merge(&rt, &MERGES, &mut shelf, None)?)
 }
 
 #[test]
 fn workers_of_a_drill_run_side_by_side(rt: HostRuntime) -> Result<(), Fail> {
-    let mut shelf = SureShelf::of(rt.alloc(), Vec::new(rt.alloc()));
-    assert_eq!(rt; other_merge(&rt, &DRILLS, &mut shelf, Some(LINES))?, None);
-    Ok(())
+    let mut shelf = NamedFiles::of(rt.alloc(), &[])?.sure(rt.alloc());
+    no_row(other_merge(&rt, &DRILLS, &mut shelf, Some(DRILL_LINES))?)
 }

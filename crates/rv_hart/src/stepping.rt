@@ -25,6 +25,7 @@ fn without_full(last: Result<Stepped, Halt>) -> Result<Stepped, Memory>
 }
 
 /// Does one instruction of the hart. `Memory` comes only for a store, and nothing has changed then.
+#[inline(always)]
 pub fn step(hart: &mut Hart, space: &mut Space) -> Result<Stepped, Memory>
     ensures ok { IfOk result (λ stepped. (state_of hart.new space.new, stepped)
         ≡ step_of (state_of hart.old space.old)) }

@@ -107,6 +107,7 @@ impl MachineHart {
     }
 
     /// Does one instruction, and counts it if it retired.
+    #[inline(always)]
     pub(crate) fn step(&mut self, space: &mut Space<'_>) -> Result<Stepped, Memory>
         requires { self.old.retired < 2 ^ 32 }
         ensures hart { IfOk result (λ stepped. self.new

@@ -1,5 +1,5 @@
 -- One instruction, where it is sampled, and where it does not retire.
-use Rattle.std.proofs.Common.{◌≡◌, ◌≢◌, ℕ, ◌+◌, ◌%◌, ◌<◌, ◌==◌, ◌&&◌, Bool, true, false, cond, List, [], ◌∷◌, ◌++◌, length, map, filter, Option, Some, None, append-nil, refl, sym, ap, ap₂, ◌∙◌, arith}
+use Rattle.std.proofs.Common.{◌≡◌, ◌≢◌, ℕ, ◌+◌, ◌%◌, ◌<◌, ◌==◌, ◌&&◌, Bool, true, false, cond, List, [], ◌∷◌, ◌++◌, length, map, filter, Option, Some, None, append-nil, refl, sym, ap, ap₂, subst, ◌∙◌, arith}
 use Rattle.std.specs.Prelude.{option_to_list}
 use Rattle.std.specs.List.{enumerate_from}
 use Rattle.scope_types.specs.declared.event.EventPeriod.{EventPeriod}
@@ -11,8 +11,8 @@ use Rattle.sample_clock.specs.declared.clock.Sample.{Sample}
 use Rattle.sample_clock.specs.declared.coming.Coming.{Coming}
 use Rattle.sample_clock.specs.Samples.{Earlier, Paths, is_of, is_sampled, ordinal, placed, sample_of, sampled_places, samples_after, samples_at, words_of}
 use Rattle.sample_clock.specs.Clock.{Sampling, earlier_of, samples_now, samples_to_come}
-use Rattle.sample_clock.specs.private.Advance.{CarriedOut, IsComing, OneSampled, Quiet, coming_sample, coming_samples, first_place, places_of, second_sample, with_pending}
-use Rattle.sample_clock.proofs.Advancing.{come-passed}
+use Rattle.sample_clock.specs.private.Advance.{CarriedOut, IsComing, OneSampled, Quiet, coming_sample, coming_samples, first_place, first_sample, places_of, second_sample, with_pending}
+use Rattle.sample_clock.proofs.Advancing.{come-passed, quiet-none}
 
 -- ---- an instruction that did not retire is not sampled
 
@@ -85,3 +85,28 @@ module _ (path_of : Paths) (c : Coming) (old : Sampling) where
       events = carried.passes.events;
       met = carried.passes.met;
     }
+
+-- ---- its second sample is pending before it is carried out
+
+carried-with : (c : Coming) (is_retired : Bool) (pending : List Sample) (old new : Sampling) → old.pending ≡ [] → CarriedOut c is_retired (with_pending pending old) new → CarriedOut c is_retired old (with_pending [] new)
+carried-with c is_retired pending old new none carried = record {
+  passes = record { run = carried.passes.run; counts = carried.passes.counts; events = carried.passes.events; pending = sym none; met = carried.passes.met };
+  ordinal_is = carried.ordinal_is;
+  pc_is = carried.pc_is;
+}
+
+pub kept-dropped : (path_of : Paths) (pending : List Sample) (old kept new after : Sampling) → old.pending ≡ [] → kept ≡ with_pending pending old → new ≡ kept → after ≡ with_pending [] new → Quiet path_of old after
+kept-dropped path_of pending old kept new after none is same dropped =
+    subst (Quiet path_of old) (sym (dropped ∙ ap (with_pending []) (same ∙ is) ∙ ap (λ (p : List Sample). with_pending p old) (sym none))) (quiet-none path_of old)
+
+pub kept-unretired : (path_of : Paths) (c : Coming) (pending : List Sample) (old kept new after : Sampling) → old.pending ≡ [] → kept ≡ with_pending pending old → CarriedOut c false kept new → after ≡ with_pending [] new → (q : Quiet path_of old after) × (0 < length q.passed)
+kept-unretired path_of c pending old kept new after none is carried dropped =
+    subst (λ (s : Sampling). (q : Quiet path_of old s) × (0 < length q.passed)) (sym dropped)
+    (unretired-quiet path_of c old (with_pending [] new) (carried-with c false pending old new none (subst (λ (s : Sampling). CarriedOut c false s new) is carried)))
+
+pub kept-sampled : (path_of : Paths) (c : Coming) (path : Raw) (second : Option Sample) (old kept new : Sampling) → IsComing c old → old.pending ≡ [] → path ≡ path_of c.pc (hart_of old.machine.state c.hart).registers (words_of old.machine.state.memory) → places_of c.is_retired_due c.place ≢ [] → second ≡ second_sample c c.is_retired_due c.place path → kept ≡ with_pending (option_to_list second) old → CarriedOut c true kept new → OneSampled path_of (first_sample c path) old new
+kept-sampled path_of c path second old kept new coming none is some second_is kept_is carried =
+    (let own : CarriedOut c true (with_pending (option_to_list second) old) new = subst (λ (s : Sampling). CarriedOut c true s new) kept_is carried in
+    subst (OneSampled path_of (first_sample c path) old) (ap (λ (p : List Sample). with_pending p new) (sym own.passes.pending))
+    (one-sampled path_of c old coming none (with_pending [] new) (carried-with c true (option_to_list second) old new none own) path is (first_sample c path) second
+    (own-samples c path some ∙ ap (λ (s : Option Sample). first_sample c path ∷ option_to_list s) (sym second_is))))

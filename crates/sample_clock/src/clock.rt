@@ -179,8 +179,17 @@ impl<'a> Samples<'a> {
         }
     }
 
+    /// Lets go of the second sample of an instruction that was not carried out, or did not retire.
+    #[cold]
+    #[inline(never)]
+    fn drop_pending(&mut self)
+        ensures { self.new ≡ with_pending [] self.old }
+    {
+        self.pending = None;
+    }
+
     /// Carries out the instruction that comes next, and gives the call path before it if it retires. Its second sample,
-    /// if it has two, is then pending.
+    /// if it has two, is then pending: it is so before the instruction, so that it isn't kept on the stack meanwhile.
     #[inline(always)]
     fn sample<U: Unwind>(
         &mut self,
@@ -195,11 +204,19 @@ impl<'a> Samples<'a> {
         let list = self.list.take();
         let path = path_before(&self.machine, coming, unwinder, list)?;
         let second = self.second_sample(coming, &path)?;
-        if !self.carry_out(coming)? {
-            return Ok(None);
-        }
         self.keep(second);
-        Ok(Some(path))
+        let carried = self.carry_out(coming);
+        match carried {
+            Ok(true) => Ok(Some(path)),
+            Ok(false) => {
+                self.drop_pending();
+                Ok(None)
+            }
+            Err(memory) => {
+                self.drop_pending();
+                Err(memory)
+            }
+        }
     }
 
     /// How many instructions a hart may retire before one that is sampled for retired, where the next one has this
@@ -370,6 +387,7 @@ impl<'a> Samples<'a> {
     /// two events has two, one after the other. `TooManySamples` comes exactly at the 1,048,577th sample, and again
     /// from then on; the machine is then after that sample's instruction. After `Memory` it is before the instruction
     /// for which none was found, and no sample is lost.
+    #[inline(always)]
     pub fn next<U: Unwind>(&mut self, unwinder: &U) -> Result<Option<Sample>, Fail<TooManySamples>>
         ensures answer { AnswersNext (U.path_of unwinder.now) result self.old self.new }
         ensures reached { Reaches (U.path_of unwinder.now) result self.old self.new }

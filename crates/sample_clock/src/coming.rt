@@ -49,17 +49,21 @@ impl Coming {
     }
 }
 
-/// A copy of a path, in a list for its frames if there is one.
+/// A copy of a path, in a list for its frames if there is one; a single frame takes no call. Here and below an answer
+/// of a call is taken apart and made anew, since LLVM keeps in memory what a call writes.
 #[inline(always)]
 pub(crate) fn copied(path: &RawPath, list: Option<Vec<Frame>>) -> Result<RawPath, Memory>
     ensures { IfOk result (λ copy. copy ≡ path.now) }
 {
     let Some(list) = list else {
-        return path.copy();
+        return Ok(path.copy()?);
     };
     let mut frames = list;
     frames.clear();
-    frames.extend_from_slice(path.frames())?;
+    match path.frames() {
+        [frame] => frames.push(*frame)?,
+        all => frames.extend_from_slice(all)?,
+    }
     Ok(RawPath::of(path.end(), frames))
 }
 
@@ -79,6 +83,6 @@ pub(crate) fn path_before<U: Unwind>(
     let regs = machine.regs(coming.hart);
     match list {
         Some(list) => unwinder.path_in(coming.pc, regs, machine.space(), list),
-        None => unwinder.path(coming.pc, regs, machine.space()),
+        None => Ok(unwinder.path(coming.pc, regs, machine.space())?),
     }
 }

@@ -1,4 +1,4 @@
-//! Tests of the structure of a program, the scopes at its addresses, its listing, call paths
+//! Tests of the structure of a program, the scopes at its addresses, their order, its listing, call paths
 //! expanded by them, and timelines of traces.
 //!
 //! It has no code of its own, as all crates of tests. The expected values come from addr2line, LLVM's tools and the
@@ -9,6 +9,8 @@
 mod expand;
 #[cfg(test)]
 mod listing;
+#[cfg(test)]
+mod order;
 #[cfg(test)]
 mod scopes;
 #[cfg(test)]

@@ -11,6 +11,7 @@ use scope_types::{LineId, ProcId};
 use std::alloc::Global;
 use std::test::Fail;
 use test_programs::program::{Question, Sections, Unread, holds_in, structure_of};
+use test_programs::rows::no_row;
 use test_programs::worked::{FILE, LINE};
 
 mod overlapping;
@@ -137,6 +138,5 @@ fn failing(alloc: Global, cases: &[Case]) -> Result<Option<&'static str>, Unread
 #[test]
 fn scopes_at_addresses(rt: HostRuntime) -> Result<(), Fail> {
     let cases = [worked::case(), overlapping::case()];
-    assert_eq!(rt; failing(rt.alloc(), &cases)?, None);
-    Ok(())
+    no_row(failing(rt.alloc(), &cases)?)
 }

@@ -12,6 +12,7 @@ use scope_find::Finder;
 use std::alloc::Global;
 use std::test::Fail;
 use test_programs::program::{Question, Sections, UNREADABLE, Unread, holds_in, structure_of};
+use test_programs::rows::no_row;
 use test_programs::worked::{FILE, LINE, SECTIONS};
 use trace_lines::{Trace, read_trace, timeline};
 
@@ -147,6 +148,5 @@ fn failing_in_worked(alloc: Global) -> Result<Option<&'static str>, Unread> {
 
 #[test]
 fn procedures_at_moments(rt: HostRuntime) -> Result<(), Fail> {
-    assert_eq!(rt; failing_in_worked(rt.alloc())?, None);
-    Ok(())
+    no_row(failing_in_worked(rt.alloc())?)
 }

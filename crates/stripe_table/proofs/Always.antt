@@ -9,7 +9,7 @@ use Rattle.stripe_table.specs.declared.view.PassView.{PassView}
 use Rattle.stripe_table.specs.declared.view.Hold.{Hold}
 use Rattle.stripe_table.specs.declared.view.Hold.TheVariants.{Free, Holds}
 use Rattle.stripe_table.specs.Views.{total, weight, got, over, splits, joins, first, holds_stripe, held_once}
-use Rattle.stripe_table.specs.Laws.{Always, DrawsCounted, AllDrawn, DrawsInOrder, OddIsHeld, EvenIsFree, FewPieces, PutsCounted, HomeFits, TakenFits, OneFirst, SpentIsBlank, SamePlan, OwePieces, AloneIsNeverBusy}
+use Rattle.stripe_table.specs.Laws.{Always, DrawsCounted, AllDrawn, DrawsInOrder, EachDrawnOnce, OddIsHeld, EvenIsFree, FewPieces, PutsCounted, HomeFits, TakenFits, OneFirst, SpentIsBlank, SamePlan, OwePieces, AloneIsNeverBusy}
 use Rattle.stripe_table.proofs.Sums.{total_has, total_one}
 use Rattle.stripe_table.proofs.Keeps.{holder, at_home, not_first, first_lives}
 use Rattle.stripe_table.proofs.Reaching.{core}
@@ -35,6 +35,9 @@ all_drawn p s r j v at some_over = let k = core p s r in let a = total_has over 
 
 pub in_order : Always DrawsInOrder
 in_order p s r = (core p s r).exact
+
+pub each_once : Always EachDrawnOnce
+each_once p s r few c = ((core p s r).each few c).0
 
 pub odd_held : Always OddIsHeld
 odd_held p s r t k lt = let kept = core p s r in let o = kept.stripes t lt in (

@@ -16,10 +16,10 @@ use Rattle.stripe_table.specs.declared.view.Last.{Last}
 use Rattle.stripe_table.specs.declared.view.Last.TheVariants.{Nothing, Saw, Found, Named}
 use Rattle.stripe_table.specs.declared.stripe.Stripe.{Stripe}
 use Rattle.stripe_table.specs.Stripe.{empty_stripe}
-use Rattle.stripe_table.specs.Views.{total, weight, occurrences, owes, times_piece, chunk_pieces, without, held_once, got, over, splits, joins, first, live, done, holds_stripe, after_draw, after_look, after_busy, after_take, after_put}
+use Rattle.stripe_table.specs.Views.{total, weight, occurrences, owes, times_piece, chunk_pieces, without, held_once, got, over, splits, joins, first, live, draws, done, holds_stripe, after_draw, after_look, after_busy, after_take, after_put}
 use Rattle.stripe_table.specs.Fits.{Fits}
 use Rattle.stripe_table.specs.private.Kept.{StripeOk, SeatOk, Alone, Kept}
-use Rattle.stripe_table.proofs.Sums.{total_set, total_same, total_two, total_has, total_one, times_snoc, few_below, piece_append, piece_without, pieces_are}
+use Rattle.stripe_table.proofs.Sums.{total_set, total_same, total_two, total_has, total_one, times_append, times_snoc, few_below, piece_append, piece_without, pieces_are}
 
 abbrev Homes : Type 0
 Homes = List (maybe.Option Stripe)
@@ -120,6 +120,22 @@ module _ (p : Chunks) where
       (λ h. let g = k.0 h in let f = k.2 h in let b = a (omega arith) in let is = b.0 in let le = b.1 in (omega arith, omega arith))
       (λ ne. let past : length v.plan ≤ x = omega arith in let g = (k.1 past).0 in let f = (k.1 past).1 in let b = a (omega arith) in let is = b.0 in let le = b.1 in (omega arith, omega arith))
 
+  each_next : (x : ℕ) (v : PassView) (vs : List PassView) (id : ℕ) → v.plan ≡ p → get_elem? vs id ≡ some v
+      → (total got vs + total over vs < 2 ^ 64 → (x ≡ total got vs + total over vs) × (total got vs ≤ length p))
+      → (total got vs + total over vs < 2 ^ 64 → (c : ℕ) → (total (draws c) vs ≤ 1) × (x ≤ c → total (draws c) vs ≡ 0))
+      → total got (set vs id (after_draw x v)) + total over (set vs id (after_draw x v)) < 2 ^ 64
+      → (c : ℕ) → (total (draws c) (set vs id (after_draw x v)) ≤ 1) × ((x + 1) % 2 ^ 64 ≤ c → total (draws c) (set vs id (after_draw x v)) ≡ 0)
+  each_next x v vs id plan at a each few c = let t = total_set got vs id v (after_draw x v) at in let o = total_set over vs id v (after_draw x v) at in let d = total_set (draws c) vs id v (after_draw x v) at in let k = got_next x v in
+      dite (dec_lt x (length v.plan))
+      (λ h. let g = k.0 h in let f = k.2 h in let is = (a (omega arith)).0 in let y = each (omega arith) c in let most = y.0 in
+      let m : draws c (after_draw x v) ≡ draws c v + weight (c == x) = ap (λ (b : Bool). occurrences c (v.drawn ++ cond b (x ∷ []) [])) (lt-ltb x (length v.plan) h) ∙ times_snoc c v.drawn x in
+      dite (ℕ_discrete c x)
+      (λ e. let one : weight (c == x) ≡ 1 = ap weight (eq-eqb c x e) in let none_yet = y.1 (omega arith) in (omega arith, λ q. absurd (omega arith)))
+      (λ ne. let away : weight (c == x) ≡ 0 = ap weight (ne_eqb c x ne) in (omega arith, λ q. let r = y.1 (omega arith) in omega arith)))
+      (λ ne. let past : length v.plan ≤ x = omega arith in let g = (k.1 past).0 in let f = (k.1 past).1 in let is = (a (omega arith)).0 in let y = each (omega arith) c in let most = y.0 in
+      let m : draws c (after_draw x v) ≡ draws c v + 0 = ap (λ (b : Bool). occurrences c (v.drawn ++ cond b (x ∷ []) [])) (le-ltb x (length v.plan) past) ∙ times_append c v.drawn [] in
+      (omega arith, λ q. let r = y.1 (omega arith) in omega arith))
+
   drew_owes : (x : ℕ) (v : PassView) → ((c s : ℕ) → 0 < owes c s v → (c < length p) × (s < 16)) → v.plan ≡ p → (c s : ℕ) → 0 < owes c s (after_draw x v) → (c < length p) × (s < 16)
   drew_owes x v old plan c s h = dite (dec_lt x (length v.plan))
       (λ lt. let a : owes c s (after_draw x v) ≡ owes c s v + times_piece c s (chunk_pieces x 16) = ap (λ (b : Bool). times_piece c s (v.owed ++ cond b (chunk_pieces x 16) [])) (lt-ltb x (length v.plan) lt) ∙ piece_append c s v.owed (chunk_pieces x 16) in
@@ -137,6 +153,7 @@ module _ (p : Chunks) where
         drawn = subst (λ (z : ℕ). (z ≤ total got (set vs id w)) ⊎ (length p ≤ total got (set vs id w))) (sym word) (drawn_next x v vs id plan at d);
         past = past_next x v vs id plan at d a;
         exact = subst (λ (z : ℕ). total got (set vs id w) + total over (set vs id w) < 2 ^ 64 → (z ≡ total got (set vs id w) + total over (set vs id w)) × (total got (set vs id w) ≤ length p)) (sym word) (exact_next x v vs id plan at kept.exact);
+        each = subst (λ (z : ℕ). total got (set vs id w) + total over (set vs id w) < 2 ^ 64 → (c : ℕ) → (total (draws c) (set vs id w) ≤ 1) × (z ≤ c → total (draws c) (set vs id w) ≡ 0)) (sym word) (each_next x v vs id plan at kept.exact kept.each);
         ones = total_same first vs id v w at refl ∙ kept.ones;
         lives = let b = kept.lives in let b1 = total_same live vs id v w at refl in let b2 = total_same joins vs id v w at refl in let b3 = total_same splits vs id v w at refl in omega arith;
         stripes = other_stripes ws ws' hs hs vs id v w 16 kept at (λ t ne. (refl, refl, apart t, refl)) (λ h. absurd (omega arith));
@@ -155,6 +172,7 @@ module _ (p : Chunks) where
     drawn = subst (λ (z : ℕ). (get_or ws 0 0 ≤ z) ⊎ (length p ≤ z)) (sym (total_same got vs id v w at refl)) kept.drawn;
     past = let a = kept.past in let g = total_same got vs id v w at refl in let h = total_same over vs id v w at refl in λ z. let y = a (omega arith) in omega arith;
     exact = let a = kept.exact in let g = total_same got vs id v w at refl in let h = total_same over vs id v w at refl in λ z. let b = a (omega arith) in let is = b.0 in let le = b.1 in (omega arith, omega arith);
+    each = let a = kept.each in let g = total_same got vs id v w at refl in let h = total_same over vs id v w at refl in λ z c. let d = total_same (draws c) vs id v w at refl in let y = a (omega arith) c in let few = y.0 in (omega arith, λ q. let r = y.1 q in omega arith);
     ones = total_same first vs id v w at refl ∙ kept.ones;
     lives = let b = kept.lives in let b1 = total_same live vs id v w at refl in let b2 = total_same joins vs id v w at refl in let b3 = total_same splits vs id v w at refl in omega arith;
     stripes = other_stripes ws ws hs hs vs id v w 16 kept at (λ t ne. (refl, refl, refl, refl)) (λ h. absurd (omega arith));
@@ -203,6 +221,7 @@ module _ (p : Chunks) where
           drawn = subst (λ (z : ℕ × ℕ). (z.0 ≤ z.1) ⊎ (length p ≤ z.1)) (λ i. (sym (get_or-set_other ws (s + 1) 0 n 0 (λ e. omega arith)) i, sym (total_same got vs id v w at refl) i)) kept.drawn;
           past = let a = kept.past in let g = total_same got vs id v w at refl in let h = total_same over vs id v w at refl in λ z. let y = a (omega arith) in omega arith;
           exact = let a = kept.exact in let g = total_same got vs id v w at refl in let f = total_same over vs id v w at refl in let first_word = get_or-set_other ws (s + 1) 0 n 0 (λ e. omega arith) in λ z. let c = a (omega arith) in let is = c.0 in let le = c.1 in (omega arith, omega arith);
+          each = let a = kept.each in let g = total_same got vs id v w at refl in let f = total_same over vs id v w at refl in let first_word = get_or-set_other ws (s + 1) 0 n 0 (λ e. omega arith) in λ z c. let d = total_same (draws c) vs id v w at refl in let y = a (omega arith) c in let few = y.0 in (omega arith, λ q. let r = y.1 (omega arith) in omega arith);
           ones = total_same first vs id v w at refl ∙ kept.ones;
           lives = let b = kept.lives in let b1 = total_same live vs id v w at refl in let b2 = total_same joins vs id v w at refl in let b3 = total_same splits vs id v w at refl in omega arith;
           stripes = other_stripes ws ws' hs hs' vs id v w s kept at (λ t ne. let z = other t ne in (z.0, z.1, get_or-set_other ws (s + 1) (t + 1) n 0 (λ e. ne (omega arith)), apart t ne))

@@ -13,7 +13,7 @@ use Rattle.stripe_table.specs.declared.view.Hold.TheVariants.{Free}
 use Rattle.path_trie.specs.Trie.{trie_nodes}
 use Rattle.stripe_table.specs.declared.stripe.Stripe.{Stripe}
 use Rattle.stripe_table.specs.Stripe.{empty_stripe}
-use Rattle.stripe_table.specs.Views.{sum_below, total, weight, owes, held_once, got, over, splits, joins, first, live, done, holds_stripe, spent_view, after_split, after_join, fresh_view, first_view}
+use Rattle.stripe_table.specs.Views.{sum_below, total, weight, owes, held_once, got, over, splits, joins, first, live, draws, done, holds_stripe, spent_view, after_split, after_join, fresh_view, first_view}
 use Rattle.stripe_table.specs.Fits.{Fits}
 use Rattle.stripe_table.specs.private.Kept.{SeatOk, Alone, Ruled}
 use Rattle.stripe_table.proofs.Sums.{up_to_all, piece_append, total_set, total_two, total_one, total_snoc, times_append}
@@ -23,7 +23,7 @@ abbrev Homes : Type 0
 Homes = List (maybe.Option Stripe)
 
 abbrev pub IsLast : Chunks → PassView → List Stripe → Type 0
-IsLast p v xs = (v.plan ≡ p) × ((t : ℕ) → t < 16 → (x : Stripe) × (get_elem? xs t ≡ some x) × Fits p t (done t v) x) × (0 < v.over → length p ≤ v.got) × (v.splits ≡ 0 → v.busy ≡ 0) × (sum_below 16 (λ t. done t v) ≡ length v.puts) × (v.got + v.over < 2 ^ 64 → v.got ≤ length p)
+IsLast p v xs = (v.plan ≡ p) × ((t : ℕ) → t < 16 → (x : Stripe) × (get_elem? xs t ≡ some x) × Fits p t (done t v) x) × (0 < v.over → length p ≤ v.got) × (v.splits ≡ 0 → v.busy ≡ 0) × (sum_below 16 (λ t. done t v) ≡ length v.puts) × (v.got + v.over < 2 ^ 64 → v.got ≤ length p) × (v.got + v.over < 2 ^ 64 → (c : ℕ) → draws c v ≤ 1)
 
 pub at_replicate : {A : Type 0} (n i : ℕ) (a x : A) → get_elem? (replicate n a) i ≡ some x → x ≡ a
 at_replicate zero i a x e = absurd (some-ne-none x (sym e))
@@ -42,6 +42,7 @@ module _ (p : Chunks) where
         drawn = subst (λ (z : ℕ). (get_or s.words 0 0 ≤ z) ⊎ (length p ≤ z)) (sym (same got refl refl)) kept.drawn;
         past = let a = kept.past in let g = same got refl refl in let b = same over refl refl in λ z. let y = a (omega arith) in omega arith;
         exact = let a = kept.exact in let g = same got refl refl in let f = same over refl refl in λ z. let b = a (omega arith) in let is = b.0 in let le = b.1 in (omega arith, omega arith);
+        each = let a = kept.each in let g = same got refl refl in let f = same over refl refl in λ z c. let d = same (draws c) refl refl in let b = a (omega arith) c in let few = b.0 in (omega arith, λ q. let r = b.1 q in omega arith);
         ones = same first refl refl ∙ kept.ones;
         lives = let a = kept.lives in let b1 = sum live in let b2 = same joins refl refl in let b3 = sum splits in omega arith;
         stripes = λ t lt. let k = kept.stripes t lt in record {
@@ -83,6 +84,7 @@ module _ (p : Chunks) where
         drawn = subst (λ (z : ℕ). (get_or s.words 0 0 ≤ z) ⊎ (length p ≤ z)) (sym (same got refl refl)) kept.drawn;
         past = let a = kept.past in let g = same got refl refl in let c = same over refl refl in λ z. let y = a (omega arith) in omega arith;
         exact = let a = kept.exact in let g = same got refl refl in let f = same over refl refl in λ z. let c = a (omega arith) in let is = c.0 in let le = c.1 in (omega arith, omega arith);
+        each = let a = kept.each in let g = same got refl refl in let f = same over refl refl in λ z c. let d = same (draws c) (times_append c v.drawn w.drawn) refl in let y = a (omega arith) c in let few = y.0 in (omega arith, λ q. let r = y.1 q in omega arith);
         ones = let a = sum first in let z : first w ≡ 0 = ap weight not in let y = kept.ones in omega arith;
         lives = let a = kept.lives in let b1 = sum live in let b2 = sum joins in let b3 = sum splits in let x = one_weight w.live alive' in let y = still.0 in let z = still.1 in omega arith;
         stripes = λ t lt. let k = kept.stripes t lt in record {
@@ -124,6 +126,7 @@ module _ (p : Chunks) where
         (λ z. ((kept.alone id v at) f z).0),
         up_to_all 16 v.puts o.placed,
         (let a = kept.exact in let b = only got refl in let c = only over refl in λ z. let y = (a (omega arith)).1 in omega arith),
+        (let a = kept.each in let b = only got refl in let c = only over refl in λ z k. let d = only (draws k) refl in let y = (a (omega arith) k).0 in omega arith),
       )
 
   pub opens : (ws : List ℕ) (xs : List Stripe) → length ws ≡ 17 → ((i : ℕ) → get_or ws i 0 ≡ 0) → length xs ≡ 16 → ((i : ℕ) (x : Stripe) → get_elem? xs i ≡ some x → x ≡ empty_stripe) → Ruled p (opening ws xs (first_view p))
@@ -133,6 +136,7 @@ module _ (p : Chunks) where
     drawn = inl (let z = zeros 0 in omega arith);
     past = λ z. absurd (omega arith);
     exact = λ z. (let y = zeros 0 in omega arith, omega arith);
+    each = λ z c. (omega arith, λ q. omega arith);
     ones = refl;
     lives = refl;
     stripes = λ t lt. let z = zeros (t + 1) in record {

@@ -13,10 +13,11 @@ use Rattle.stripe_table.specs.Stripe.{empty_stripe}
 use Rattle.stripe_table.specs.Fits.{Fits}
 use Rattle.stripe_table.specs.Views.{occurrences}
 
--- the stripes, and what the pass did that closed them
+-- the stripes, and what the pass did and offered that closed them
 pub record SetValue : Type 0 where
   pub stripes : List Stripe
   pub view : PassView
+  pub offered : List (ℕ × ℕ)
 
 -- stripe s is there, and fits the plan with k names
 abbrev pub FitsAt : Chunks → List Stripe → ℕ → ℕ → Type 0

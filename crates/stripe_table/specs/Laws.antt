@@ -8,7 +8,7 @@ use Rattle.stripe_table.specs.declared.view.PassView.{PassView}
 use Rattle.stripe_table.specs.declared.view.Hold.TheVariants.{Holds}
 use Rattle.stripe_table.specs.declared.view.Last.TheVariants.{Saw}
 use Rattle.stripe_table.specs.declared.stripe.Stripe.{Stripe}
-use Rattle.stripe_table.specs.Views.{total, got, over, live, done, owes, spent_view}
+use Rattle.stripe_table.specs.Views.{total, got, over, live, draws, done, owes, spent_view}
 use Rattle.stripe_table.specs.Fits.{Fits}
 use Rattle.stripe_table.specs.Machine.{MergeState, Reached, stripe_word}
 
@@ -37,6 +37,10 @@ AllDrawn plan s = (j : ℕ) (v : PassView) → Shows s j v → 0 < v.over → le
 abbrev pub DrawsInOrder : Chunks → MergeState → Type 0
 DrawsInOrder plan s = total got s.views + total over s.views < 2 ^ 64
     → (slice_index s.words 0 ≡ total got s.views + total over s.views) × (total got s.views ≤ length plan)
+
+-- nor is a chunk drawn twice
+abbrev pub EachDrawnOnce : Chunks → MergeState → Type 0
+EachDrawnOnce plan s = total got s.views + total over s.views < 2 ^ 64 → (c : ℕ) → total (draws c) s.views ≤ 1
 
 -- the word of a stripe is 2 k + 1 exactly where a pass holds the stripe with k pieces, and then no other holds it
 abbrev pub OddIsHeld : Chunks → MergeState → Type 0

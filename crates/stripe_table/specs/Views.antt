@@ -79,6 +79,10 @@ first v = weight v.first
 abbrev pub live : PassView → ℕ
 live v = weight v.live
 
+-- how often it drew chunk c
+abbrev pub draws : ℕ → PassView → ℕ
+draws c v = occurrences c v.drawn
+
 -- how many pieces the pass merged into stripe s
 abbrev pub done : ℕ → PassView → ℕ
 done s v = occurrences s v.puts
@@ -110,6 +114,7 @@ fresh_view is_first chunks = record {
   joins = 0;
   busy = 0;
   met = 0;
+  drawn = [];
   puts = [];
   owed = [];
   hold = Free;
@@ -133,6 +138,7 @@ spent_view = record {
   joins = 0;
   busy = 0;
   met = 0;
+  drawn = [];
   puts = [];
   owed = [];
   hold = Free;
@@ -145,6 +151,7 @@ abbrev pub after_draw : ℕ → PassView → PassView
 after_draw w v = record v {
   got = v.got + weight (ltb w (length v.plan));
   over = v.over + weight (leb (length v.plan) w);
+  drawn = v.drawn ++ cond (ltb w (length v.plan)) (w ∷ []) [];
   owed = v.owed ++ cond (ltb w (length v.plan)) (chunk_pieces w stripe_count) [];
   last = Drew w;
 }
@@ -197,6 +204,7 @@ after_join v u = record v {
   joins = v.joins + 1;
   busy = v.busy + u.busy;
   met = v.met + u.met;
+  drawn = v.drawn ++ u.drawn;
   puts = v.puts ++ u.puts;
   owed = v.owed ++ u.owed;
   last = Nothing;

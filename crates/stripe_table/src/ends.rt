@@ -7,11 +7,12 @@ ghost use Rattle.stripe_table.specs.Ends.{AllFit, FitsAt, stripe_names, trie_of}
 ghost use Rattle.stripe_table.specs.Limits.{IsLimited, IsPieceOf};
 ghost use Rattle.stripe_table.specs.Stripe.{empty_stripe};
 ghost use Rattle.stripe_table.specs.Values.{IsPassOf};
-ghost use Rattle.stripe_table.specs.Views.{done, first_view, occurrences, sum_below};
+ghost use Rattle.stripe_table.specs.Views.{done, draws, first_view, occurrences, sum_below};
 ghost use Rattle.stripe_table.specs.declared.view.Hold.TheVariants.{Free};
 ghost use Rattle.scope_types.specs.Limits.{stripe_count};
 ghost use Rattle.thread_cct.specs.Plan.{FitsExpansion, expanded};
 
+use crate::history::nothing_offered;
 use crate::plays::StripeRule;
 use crate::stripe::Stripe;
 use crate::table::{Pass, PassSeat, Stripes};
@@ -54,7 +55,11 @@ impl Model for StripeSet {
 
     ghost Value = { SetValue };
 
-    ghost view = { λ s. record { stripes = s.stripes.items; view = s.closer.value.view } };
+    ghost view = { λ s. record {
+      stripes = s.stripes.items;
+      view = s.closer.value.view;
+      offered = s.closer.value.offered;
+    } };
 
     ghost invariant = { λ s. IsSet s.closer.value.view.plan s.stripes.items };
 }
@@ -120,7 +125,7 @@ impl Stripes {
     ) -> Result<(Stripes, Pass), Memory>
         requires { FitsExpansion plan.now (E.call_path expand.now) }
         ensures { IfOk result (λ r. (r.0.plan ≡ expanded plan.now (E.call_path expand.now))
-            × IsPassOf r.0 r.1 × (r.1.view ≡ first_view r.0.plan)) }
+            × IsPassOf r.0 r.1 × (r.1.view ≡ first_view r.0.plan) × (r.1.offered ≡ [])) }
     {
         let key = GhostValue::of::<Plan<'_>, E, Expanded<E>>(plan, expand);
         // room: `STRIPES`, the stripes of the closed table, so that `close` can't fail
@@ -132,7 +137,12 @@ impl Stripes {
             chunks,
             spare,
         };
-        Ok((stripes, Pass { seat, at: 0 }))
+        let pass = Pass {
+            seat,
+            at: 0,
+            offered: nothing_offered(),
+        };
+        Ok((stripes, pass))
     }
 
     /// Ends the sharing, by the first pass, which has taken in all others. Takes no memory.
@@ -141,11 +151,13 @@ impl Stripes {
         requires first { (pass.view.first ≡ true) × (pass.view.hold ≡ Free)
             × (pass.view.splits ≡ pass.view.joins) }
         ensures view { result.view ≡ pass.view }
+        ensures offered { result.offered ≡ pass.offered }
         ensures fits { (s : ℕ) → s < stripe_count → FitsAt self.plan result.stripes s (done s pass.view) }
         ensures names { (s : ℕ) → s < stripe_count → length (stripe_names result.stripes s) ≡ done s pass.view }
         ensures all { AllFit result.view.plan result.stripes }
         ensures drawn { 0 < pass.view.over → length self.plan ≤ pass.view.got }
         ensures once { pass.view.got + pass.view.over < 2 ^ 64 → pass.view.got ≤ length self.plan }
+        ensures each { pass.view.got + pass.view.over < 2 ^ 64 → (c : ℕ) → draws c pass.view ≤ 1 }
         ensures busy { pass.view.splits ≡ 0 → pass.view.busy ≡ 0 }
         ensures sum { sum_below stripe_count (λ s. done s pass.view) ≡ length pass.view.puts }
     {
@@ -155,7 +167,11 @@ impl Stripes {
             chunks: _,
             spare,
         } = self;
-        let Pass { seat, at: _ } = pass;
+        let Pass {
+            seat,
+            at: _,
+            offered: _,
+        } = pass;
         let closed = table.close_with(seat);
         StripeSet {
             stripes: gather(closed, spare),
@@ -191,6 +207,7 @@ impl StripeSet {
         requires piece { IsPieceOf self.old.view.plan piece.now }
         requires missing { occurrences piece.now.chunk (stripe_names self.old.stripes piece.now.stripe) ≡ 0 }
         ensures view { self.new.view ≡ self.old.view }
+        ensures offered { self.new.offered ≡ self.old.offered }
         ensures ok { OnOk result (stripe_names self.new.stripes piece.now.stripe
             ≡ stripe_names self.old.stripes piece.now.stripe ++ piece.now.chunk ∷ []) }
         ensures others { (s : ℕ) → s ≢ piece.now.stripe

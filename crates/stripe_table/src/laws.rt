@@ -1,4 +1,5 @@
 ghost use Rattle.stripe_table.specs.Laws.{Always, AllDrawn, AloneIsNeverBusy, DrawsCounted, DrawsInOrder};
+ghost use Rattle.stripe_table.specs.Laws.{EachDrawnOnce};
 ghost use Rattle.stripe_table.specs.Laws.{EvenIsFree, FewPieces, HomeFits, TakenFits};
 ghost use Rattle.stripe_table.specs.Laws.{OddIsHeld, OneFirst, OwePieces, PutsCounted, SamePlan, SpentIsBlank};
 
@@ -9,6 +10,7 @@ pub fn every_reached_table()
     ensures draws { Always DrawsCounted }
     ensures all_drawn { Always AllDrawn }
     ensures in_order { Always DrawsInOrder }
+    ensures each_once { Always EachDrawnOnce }
     ensures odd_is_held { Always OddIsHeld }
     ensures even_is_free { Always EvenIsFree }
     ensures few_pieces { Always FewPieces }

@@ -6,6 +6,7 @@
 #![tactic(auto)]
 
 mod ends;
+mod history;
 mod laws;
 mod offer;
 mod plays;
@@ -22,4 +23,4 @@ pub use offer::Offered;
 pub use plays::StripeRule;
 pub use stripe::Stripe;
 pub use table::{Laid, Pass, Stripes, Take};
-pub use view::{ExpandedPlan, Hold, Last, PassView};
+pub use view::{ExpandedPlan, Hold, Last, PassView, PieceList};

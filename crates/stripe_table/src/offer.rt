@@ -1,10 +1,11 @@
-ghost use Rattle.std.specs.Prelude.{◌≡◌, ℕ, ◌<◌};
+ghost use Rattle.std.specs.Prelude.{◌≡◌, ℕ, ◌<◌, ◌++◌, ◌∷◌, []};
 ghost use Rattle.stripe_table.specs.Calls.{OfferedAs};
 ghost use Rattle.stripe_table.specs.Limits.{IsPieceOf};
 ghost use Rattle.stripe_table.specs.Values.{IsPassOf};
 ghost use Rattle.stripe_table.specs.Views.{owes};
 ghost use Rattle.stripe_table.specs.declared.view.Hold.TheVariants.{Free};
 
+use crate::history::offered_too;
 use crate::table::{Laid, Pass, Stripes, Take};
 use prof_bytes::Memory;
 use scope_types::Piece;
@@ -33,7 +34,9 @@ impl Stripes {
         ensures free { pass.new.view.hold ≡ Free }
         ensures others { (c s : ℕ) → (c ≡ piece.now.chunk → s ≡ piece.now.stripe → ⊥)
             → owes c s pass.new.view ≡ owes c s pass.old.view }
+        ensures pieces { pass.new.offered ≡ pass.old.offered ++ (piece.now.chunk, piece.now.stripe) ∷ [] }
     {
+        pass.offered = offered_too(&pass.offered, piece);
         self.take_and_lay(pass, piece)
     }
 
@@ -43,6 +46,7 @@ impl Stripes {
         requires piece { IsPieceOf self.now.plan piece.now }
         ensures of { IsPassOf self.now pass.new }
         ensures offered { OfferedAs piece.now.stripe piece.now.chunk pass.old.view pass.new.view result }
+        ensures pieces { pass.new.offered ≡ pass.old.offered }
     {
         match self.take(pass, piece.stripe) {
             Take::Busy { looked, found } => Offered::Busy { looked, found },

@@ -1,5 +1,5 @@
 //! The stripes, the passes, and their calls. None of them waits.
-ghost use Rattle.std.specs.Prelude.{◌≡◌, ℕ, ◌<◌, ◌≤◌, true, false, length, IfSome, MatchOption};
+ghost use Rattle.std.specs.Prelude.{◌≡◌, ℕ, ◌<◌, ◌≤◌, ◌++◌, [], true, false, length, IfSome, MatchOption};
 ghost use Rattle.stripe_table.specs.Calls.{LaidAs, Took};
 ghost use Rattle.stripe_table.specs.Limits.{IsPieceOf};
 ghost use Rattle.stripe_table.specs.Values.{IsPassOf};
@@ -7,10 +7,11 @@ ghost use Rattle.stripe_table.specs.Views.{after_draw, after_join, after_put_bac
 ghost use Rattle.stripe_table.specs.declared.view.Hold.TheVariants.{Free, Holds};
 ghost use Rattle.scope_types.specs.Limits.{stripe_count};
 
+use crate::history::{nothing_offered, offered_by_both};
 use crate::plays::{Fork, StripeRule};
 use crate::steps::{draw, lay_at, let_go_at, take_at};
 use crate::stripe::Stripe;
-use crate::view::{ExpandedPlan, PassView};
+use crate::view::{ExpandedPlan, PassView, PieceList};
 use atomic_table::{Seat, Shared, Table};
 use ghost_value::GhostValue;
 use prof_bytes::Memory;
@@ -44,12 +45,15 @@ impl Model for Stripes {
     ghost invariant = { λ s. IsStripes s.table.shared.table_id s.table.shared.key.value s.chunks s.spare };
 }
 
-/// A thread's pass over the chunks. Contracts see the table that it is of and what it did (`PassView`).
+/// A thread's pass over the chunks. Contracts see the table that it is of, what it did (`PassView`), and which pieces
+/// it offered.
 #[derive(Drop)]
 pub struct Pass {
     pub(crate) seat: Seat<Stripe, PassView>,
     /// The stripe that was taken last.
     pub(crate) at: u32,
+    /// The pieces that were offered.
+    pub(crate) offered: GhostValue<PieceList>,
 }
 
 impl Model for Pass {
@@ -58,7 +62,7 @@ impl Model for Pass {
 
     ghost Value = { PassValue };
 
-    ghost view = { λ p. record { table = p.seat.table_id; view = p.seat.me.0 } };
+    ghost view = { λ p. record { table = p.seat.table_id; view = p.seat.me.0; offered = p.offered.value } };
 
     ghost invariant = { λ p. Carries p.seat.me × HeldAt p.at p.seat.me.0.hold };
 }
@@ -89,6 +93,7 @@ impl Stripes {
         ensures drawn { (w : ℕ) × (pass.new.view ≡ after_draw w pass.old.view)
             × MatchOption result (length self.now.plan ≤ w) (λ c. (c ≡ w) × (c < length self.now.plan)) }
         ensures owed { IfSome result (λ c. (s : ℕ) → s < stripe_count → 0 < owes c s pass.new.view) }
+        ensures offered { pass.new.offered ≡ pass.old.offered }
     {
         self.next_chunk(pass)
     }
@@ -98,6 +103,7 @@ impl Stripes {
         ensures of { IsPassOf self.now pass.new }
         ensures drawn { (w : ℕ) × (pass.new.view ≡ after_draw w pass.old.view)
             × MatchOption result (length self.now.plan ≤ w) (λ c. (c ≡ w) × (c < length self.now.plan)) }
+        ensures offered { pass.new.offered ≡ pass.old.offered }
     {
         let drawn = draw(&self.table.shared, &mut pass.seat);
         if drawn < u64::from(self.chunks) {
@@ -114,6 +120,7 @@ impl Stripes {
         requires stripe { stripe < stripe_count }
         ensures of { IsPassOf self.now pass.new }
         ensures took { Took stripe pass.old.view pass.new.view result }
+        ensures offered { pass.new.offered ≡ pass.old.offered }
     {
         pass.at = stripe;
         take_at(&self.table.shared, &mut pass.seat, stripe as usize)
@@ -127,6 +134,7 @@ impl Stripes {
         ensures of { IsPassOf self.now pass.new }
         ensures laid { (k : ℕ) → pass.old.view.hold ≡ Holds piece.now.stripe k
             → LaidAs piece.now.stripe k piece.now.chunk pass.old.view pass.new.view result }
+        ensures offered { pass.new.offered ≡ pass.old.offered }
     {
         lay_at(&self.table.shared, &mut pass.seat, piece)
     }
@@ -137,6 +145,7 @@ impl Stripes {
         requires held { (s : ℕ) × (k : ℕ) × (pass.old.view.hold ≡ Holds s k) }
         ensures of { IsPassOf self.now pass.new }
         ensures free { pass.new.view ≡ after_put_back pass.old.view }
+        ensures offered { pass.new.offered ≡ pass.old.offered }
     {
         let_go_at(&self.table.shared, &mut pass.seat, pass.at as usize)
     }
@@ -148,19 +157,30 @@ impl Stripes {
         ensures of { IsPassOf self.now pass.new × IsPassOf self.now result }
         ensures split { (pass.new.view ≡ after_split pass.old.view)
             × (result.view ≡ fresh_view false self.now.plan) }
+        ensures offered { (pass.new.offered ≡ pass.old.offered) × (result.offered ≡ []) }
     {
         let seat = self.table.shared.split_seat::<Fork>(&mut pass.seat);
-        Pass { seat, at: 0 }
+        Pass {
+            seat,
+            at: 0,
+            offered: nothing_offered(),
+        }
     }
 
-    /// The first pass takes in another, with all that it did and owes.
+    /// The first pass takes in another, with all that it did, owes and offered.
     pub fn join(&self, pass: &mut Pass, other: Pass)
         requires of { IsPassOf self.now pass.old × IsPassOf self.now other }
         requires first { (pass.old.view.first ≡ true) × (other.view.hold ≡ Free) }
         ensures of { IsPassOf self.now pass.new }
         ensures joined { pass.new.view ≡ after_join pass.old.view other.view }
+        ensures offered { pass.new.offered ≡ pass.old.offered ++ other.offered }
     {
-        let Pass { seat, at: _ } = other;
+        let Pass {
+            seat,
+            at: _,
+            offered,
+        } = other;
         self.table.shared.join_seat::<Fork>(&mut pass.seat, seat);
+        pass.offered = offered_by_both(&pass.offered, &offered);
     }
 }

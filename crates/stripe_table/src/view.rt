@@ -5,6 +5,9 @@ use std::collections::LinkedList;
 /// An expanded plan: the entries of each chunk. No value of this type is made.
 pub type ExpandedPlan = LinkedList<LinkedList<Entry>>;
 
+/// Pieces: a chunk and a stripe each. No value of this type is made.
+pub type PieceList = LinkedList<(u64, u64)>;
+
 /// The stripe that a pass holds. No value of this type is made.
 pub enum Hold {
     Free,
@@ -42,10 +45,12 @@ pub struct PassView {
     pub busy: u64,
     /// How often it found a piece merged already.
     pub met: u64,
+    /// The chunks that it drew.
+    pub drawn: LinkedList<u64>,
     /// The stripe of each merged piece.
     pub puts: LinkedList<u64>,
-    /// The pieces that the pass has to offer: a chunk and a stripe each.
-    pub owed: LinkedList<(u64, u64)>,
+    /// The pieces that the pass has to offer.
+    pub owed: PieceList,
     pub hold: Hold,
     /// The stripe that it holds, as it was when the pass took it. Without pieces where it holds none.
     pub taken: Stripe,

@@ -1,6 +1,7 @@
 //! Rows of tests as text: bytes in hexadecimal, numbers, fields after a mark, and changes of single bytes.
 use prof_bytes::Memory;
 use std::alloc::Global;
+use std::test::Fail;
 
 /// What a digit stands for; 0 for any other letter.
 pub fn digit(letter: u8) -> u8 {
@@ -104,4 +105,12 @@ pub fn replaced(alloc: Global, hex: &[u8], others: &[(usize, u8)]) -> Result<Vec
     let mut bytes = bytes_of(alloc, hex)?;
     replace_each(&mut bytes, others);
     Ok(bytes)
+}
+
+/// Fails by the name of a row that is not met.
+pub fn no_row(other: Option<&'static str>) -> Result<(), Fail> {
+    match other {
+        Some(name) => Err(Fail::from(name)),
+        None => Ok(()),
+    }
 }

@@ -1,7 +1,7 @@
 -- How many samples a column has.
-use Rattle.std.proofs.Common.{◌≡◌, ℕ, ◌+◌, ◌<◌, ◌==◌, Bool, true, false, cond, Some, take, List, [], ◌∷◌, ◌++◌, length, filter, count_by, sum_by, refl, sym, ap, subst, ◌∙◌, arith, append-nil, append_assoc}
-use Rattle.std.proofs.lemmas.List.{length-append, length-map}
-use Rattle.std.proofs.lemmas.List.Sums.{sum_by-cons, sum_by_more}
+use Rattle.std.proofs.Common.{◌≡◌, ℕ, ◌+◌, ◌<◌, ◌≤◌, ◌==◌, Bool, true, false, cond, Some, take, drop, List, [], ◌∷◌, ◌++◌, length, filter, count_by, sum_by, refl, sym, ap, subst, ◌∙◌, arith, append-nil, append_assoc}
+use Rattle.std.proofs.lemmas.List.{length-append, length-map, take-append-drop}
+use Rattle.std.proofs.lemmas.List.Sums.{sum_by-append, sum_by-cons, sum_by_more}
 use Rattle.std.proofs.lemmas.Option.{get_or_from_slice_get}
 use Rattle.std.specs.Prelude.{slice_get}
 use Rattle.scope_types.specs.declared.frame.Counted.{Counted}
@@ -32,6 +32,14 @@ filtered t (x ∷ xs) =
 -- one path more
 pub samples_more : (cs : List Counted) (i : ℕ) (c : Counted) → i < length cs → slice_get cs i ≡ Some c → sum_by count_of (take i cs) + c.count ≡ sum_by count_of (take (i + 1) cs)
 samples_more cs i c lt at = ap (λ (c : Counted). sum_by count_of (take i cs) + c.count) (sym (get_or_from_slice_get cs i c c at)) ∙ sym (sum_by_more count_of cs i c lt)
+
+-- and with it no more than all
+pub samples_small : (cs : List Counted) (i : ℕ) (c : Counted) → i < length cs → slice_get cs i ≡ Some c → sum_by count_of (take i cs) + c.count ≤ sum_by count_of cs
+samples_small cs i c lt at =
+    let more = samples_more cs i c lt at in
+    let parts = sum_by-append count_of (take (i + 1) cs) (drop (i + 1) cs) in
+    let same : sum_by count_of (take (i + 1) cs ++ drop (i + 1) cs) ≡ sum_by count_of cs = ap (sum_by count_of) (take-append-drop (i + 1) cs) in
+    omega (arith, more, parts, same)
 
 -- of each column as many are counted as it has
 pub each_counted : (columns column : ℕ) (samples : List ColumnRaw) → column < columns → samples_of_column (distinct columns samples) column ≡ count_by (λ s. s.column == column) samples

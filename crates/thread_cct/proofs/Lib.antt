@@ -4,6 +4,10 @@ pub mod Tables
 pub mod Samples
 pub mod Counts
 pub mod Putting
+mod Columns
+mod FirstRepeat
+mod Ties
+mod Listed
 mod DealtEntries
 mod Located
 pub mod PlanLaws

@@ -1,3 +1,4 @@
 pub mod Adding
+pub mod Listing
 pub mod Plan
 pub mod private

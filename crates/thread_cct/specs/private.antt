@@ -1,3 +1,5 @@
 pub mod Fields
 pub mod Index
 pub mod Dealing
+pub mod Listed
+pub mod Keys

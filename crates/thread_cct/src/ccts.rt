@@ -1,15 +1,17 @@
 ghost use Rattle.std.specs.Prelude.{◌≡◌, ◌+◌, ◌^◌, ◌<◌, ◌∷◌, ◌++◌, [], false, if◌then◌else◌, List, length, slice_get};
-ghost use Rattle.std.specs.Prelude.{Some, IfOk, OnOk, OnErr, All, ◌≤◌, not, replicate};
+ghost use Rattle.std.specs.Prelude.{Some, IfOk, OnOk, OnErr, All, ◌≤◌, replicate, slice_set};
 ghost use Rattle.prof_bytes.specs.Outcome.{Gives};
 ghost use Rattle.scope_types.specs.Distinct.{ColumnRaw, distinct, frames_in, samples_in};
 ghost use Rattle.scope_types.specs.Limits.{most_frames_in_all, most_samples};
-ghost use Rattle.thread_cct.specs.Adding.{with_path, with_sample, count_sample, few_frames, has_path, of_column};
+ghost use Rattle.thread_cct.specs.Adding.{with_sample, count_sample, few_frames, has_path, of_column};
 ghost use Rattle.thread_cct.specs.Adding.{samples_of_column};
+ghost use Rattle.thread_cct.specs.Listing.{HasNoRepeat, frames_of_all, samples_of};
 
-use crate::table::PathTable;
+use crate::column::Column;
+use crate::path_list::PathList;
 use prof_bytes::{Fail, Memory};
 use scope_types::limits::MOST_FRAMES_IN_ALL;
-use scope_types::{Counted, RawPath};
+use scope_types::{Counted, Frame, RawPath};
 use std::alloc::Global;
 use std::marker::Model;
 
@@ -32,7 +34,7 @@ impl From<TooManyFrames> for Fail<TooManyFrames> {
 #[derive(Drop)]
 pub struct Ccts {
     alloc: Global,
-    tables: Vec<PathTable>,
+    tables: Vec<Column>,
     frames: u64,
 }
 
@@ -48,6 +50,8 @@ impl Model for Ccts {
     ghost invariant = { λ ccts. FramesFit ccts.tables.items ccts.frames };
 }
 
+/// A copy of a path.
+#[inline(never)]
 fn copied(alloc: Global, raw: &RawPath) -> Result<RawPath, Memory>
     ensures { IfOk result (λ copy. copy ≡ raw.now) }
 {
@@ -57,8 +61,9 @@ fn copied(alloc: Global, raw: &RawPath) -> Result<RawPath, Memory>
 }
 
 /// Counts a sample whose path its column has already, and says whether it has.
+#[inline(always)]
 #[tactic(auto, using(crate::proofs::Tables::table_steps))]
-fn count_again(tables: &mut Vec<PathTable>, column: usize, raw: &RawPath) -> bool
+fn count_again(tables: &mut Vec<Column>, column: usize, raw: &RawPath) -> bool
     requires column { column < length tables.old.items }
     requires few { samples_in tables.old.items < most_samples }
     ensures found { result ≡ has_path raw.now (of_column tables.old.items column) }
@@ -70,8 +75,9 @@ fn count_again(tables: &mut Vec<PathTable>, column: usize, raw: &RawPath) -> boo
 }
 
 /// Counts a sample whose path is new to its column.
+#[inline(never)]
 #[tactic(auto, using(crate::proofs::Tables::table_steps))]
-fn put_path(tables: &mut Vec<PathTable>, column: usize, raw: RawPath) -> Result<(), Memory>
+fn put_path(tables: &mut Vec<Column>, column: usize, raw: RawPath) -> Result<(), Memory>
     requires column { column < length tables.old.items }
     requires new { has_path raw (of_column tables.old.items column) ≡ false }
     ensures ok { OnOk result (tables.new.items
@@ -81,21 +87,12 @@ fn put_path(tables: &mut Vec<PathTable>, column: usize, raw: RawPath) -> Result<
     tables[column].put(raw)
 }
 
-/// Puts a counted path last where it is new to its column, and says whether it is.
-fn put_new_path(
-    tables: &mut Vec<PathTable>,
-    column: usize,
-    raw: RawPath,
-    count: u32,
-) -> Result<bool, Memory>
-    requires column { column < length tables.old.items }
-    ensures found { IfOk result (λ is_new. is_new ≡ not (has_path raw (of_column tables.old.items column))) }
-    ensures put { IfOk result (λ is_new. tables.new.items
-        ≡ (if is_new then with_path tables.old.items column (record { path = raw; count = count })
-        else tables.old.items)) }
-    ensures err { OnErr result (tables.new.items ≡ tables.old.items) }
+/// Gives a column without paths those of a list.
+fn put_list(alloc: Global, tables: &mut Vec<Column>, column: usize, list: PathList)
+    requires { column < length tables.old.items }
+    ensures { tables.new.items ≡ slice_set tables.old.items column list }
 {
-    tables[column].put_new(raw, count)
+    tables[column] = Column::of(alloc, list);
 }
 
 impl Ccts {
@@ -108,7 +105,7 @@ impl Ccts {
     {
         let mut tables = Vec::new(alloc);
         for _ in 0..columns {
-            tables.push(PathTable::new(alloc))?;
+            tables.push(Column::new(alloc))?;
         }
         Ok(Ccts {
             alloc,
@@ -130,6 +127,7 @@ impl Ccts {
     /// Adds a sample of a column with this raw path. `TooManyFrames` comes exactly where the path is new to its
     /// column and the frames of all distinct paths would be more than 4,194,304. Nothing is changed then, and
     /// nothing where memory runs out.
+    #[inline(always)]
     #[tactic(auto, using(crate::proofs::Tables::adding_steps))]
     pub fn add(&mut self, column: u32, raw: &RawPath) -> Result<(), Fail<TooManyFrames>>
         requires column { column < length self.old }
@@ -157,30 +155,22 @@ impl Ccts {
         Ok(())
     }
 
-    /// Puts a raw path last, with its count, where it is new to its column, and says whether it is. Where it is not,
-    /// or memory runs out, nothing is changed.
+    /// Gives a column that has no paths those of a list, which are distinct.
     #[tactic(auto, using(crate::proofs::Putting::putting_steps))]
-    pub fn put_new(&mut self, column: u32, raw: RawPath, count: u32) -> Result<bool, Memory>
+    pub fn put_list(&mut self, column: u32, list: PathList)
         requires column { column < length self.old }
-        requires count { 0 < count }
-        requires few { samples_in self.old + count ≤ most_samples }
-        requires frames { frames_in self.old + length raw.frames ≤ most_frames_in_all }
-        ensures found { IfOk result (λ is_new. is_new ≡ not (has_path raw (of_column self.old column))) }
-        ensures put { IfOk result (λ is_new. self.new
-            ≡ (if is_new then with_path self.old column (record { path = raw; count = count }) else self.old)) }
-        ensures err { OnErr result (self.new ≡ self.old) }
+        requires empty { of_column self.old column ≡ [] }
+        requires distinct { HasNoRepeat list }
+        requires counted { All (λ c. 0 < c.count) list }
+        requires few { samples_in self.old + samples_of list ≤ most_samples }
+        requires frames { frames_in self.old + frames_of_all list ≤ most_frames_in_all }
+        ensures put { self.new ≡ slice_set self.old column list }
         ensures columns { length self.new ≡ length self.old }
-        ensures samples { IfOk result (λ is_new. samples_in self.new
-            ≡ samples_in self.old + (if is_new then count else 0)) }
-        ensures paths { IfOk result (λ is_new. frames_in self.new
-            ≡ frames_in self.old + (if is_new then length raw.frames else 0)) }
+        ensures samples { samples_in self.new ≡ samples_in self.old + samples_of list }
+        ensures frames { frames_in self.new ≡ frames_in self.old + frames_of_all list }
     {
-        let frames = self.frames + raw.frames().len() as u64;
-        if !put_new_path(&mut self.tables, column as usize, raw, count)? {
-            return Ok(false);
-        }
-        self.frames = frames;
-        Ok(true)
+        self.frames += list.frames();
+        put_list(self.alloc, &mut self.tables, column as usize, list);
     }
 
     /// The other's columns follow the own ones, with their paths and counts. `TooManyFrames` comes exactly where the
@@ -222,8 +212,7 @@ impl Ccts {
         let table = &self.tables[column as usize];
         let mut samples: u64 = 0;
         for index in 0..table.len() {
-            let (_, count) = table.entry(index);
-            samples += u64::from(count);
+            samples += u64::from(table.count(index));
         }
         samples
     }
@@ -234,20 +223,20 @@ impl Ccts {
         requires index { index < length (of_column self.now column) }
         ensures { IfOk result (λ counted. slice_get (of_column self.now column) index ≡ Some counted) }
     {
-        let (raw, count) = self.entry(column, index);
-        Ok(Counted {
-            path: copied(self.alloc, raw)?,
-            count,
-        })
+        self.load(column, index, Vec::new(self.alloc))
     }
 
-    /// A column's distinct raw path at an index, and its count.
-    pub(crate) fn entry(&self, column: u32, index: u32) -> (&RawPath, u32)
+    /// The same, in the memory of other frames.
+    pub(crate) fn load(
+        &self,
+        column: u32,
+        index: u32,
+        frames: Vec<Frame>,
+    ) -> Result<Counted, Memory>
         requires column { column < length self.now }
         requires index { index < length (of_column self.now column) }
-        ensures { slice_get (of_column self.now column) index
-            ≡ Some (record { path = result.0.now; count = result.1 }) }
+        ensures { IfOk result (λ counted. slice_get (of_column self.now column) index ≡ Some counted) }
     {
-        self.tables[column as usize].entry(index as usize)
+        self.tables[column as usize].load(index as usize, frames)
     }
 }

@@ -13,15 +13,21 @@
 #![tactic(auto)]
 
 mod ccts;
+mod column;
 mod dealt;
 mod laws;
 mod merge_plan;
+mod path_list;
 mod plan_laws;
+mod recent;
+mod repeats;
 mod table;
 
 pub use ccts::{Ccts, TooManyFrames};
 pub use dealt::Pieces;
 pub use laws::{appended_samples_are_counted, samples_are_counted};
 pub use merge_plan::{Plan, TooManyScopes};
+pub use path_list::PathList;
 pub use plan_laws::{pieces_make_the_plan, plans_can_be_merged, plans_hold_counted_paths};
+pub use recent::{RecentPlaces, is_same_raw};
 pub use scope_types::Counted;

@@ -14,7 +14,7 @@ use crate::ccts::Ccts;
 use crate::dealt::{Pieces, deal, empty_lists};
 use prof_bytes::{Fail, Memory};
 use scope_types::limits::MOST_SCOPES_IN_ALL;
-use scope_types::{Entry, Expand, RawPath};
+use scope_types::{Counted, Entry, Expand, Frame};
 use std::alloc::Global;
 use std::marker::Model;
 
@@ -57,16 +57,20 @@ impl<'a> Model for Plan<'a> {
 }
 
 /// How many scopes the call paths of a column's distinct raw paths have together, or 2^64 - 1 where they have more.
-fn scopes_of<E: Expand>(ccts: &Ccts, expand: &E, column: u32) -> u64
+fn scopes_of<E: Expand>(alloc: Global, ccts: &Ccts, expand: &E, column: u32) -> Result<u64, Memory>
     requires { column < length ccts.now }
-    ensures { result ≡ min (sum_by (path_scopes (E.call_path expand.now)) (of_column ccts.now column)) (2 ^ 64 - 1) }
+    ensures { IfOk result (λ scopes. scopes
+        ≡ min (sum_by (path_scopes (E.call_path expand.now)) (of_column ccts.now column)) (2 ^ 64 - 1)) }
 {
+    let mut frames = Vec::new(alloc);
     let mut scopes: u64 = 0;
     for index in 0..ccts.len(column) {
-        let (raw, _) = ccts.entry(column, index);
-        scopes = scopes.saturating_add(expand.length(raw));
+        let counted = ccts.load(column, index, frames)?;
+        let Counted { path, .. } = counted;
+        scopes = scopes.saturating_add(expand.length(&path));
+        frames = path.into_frames();
     }
-    scopes
+    Ok(scopes)
 }
 
 /// The last of some numbers, which do not fall, that isn't above `number`.
@@ -98,7 +102,8 @@ impl<'a> Plan<'a> {
         for column in 0..ccts.columns() {
             firsts.push(paths)?;
             paths += ccts.len(column);
-            scopes = scopes.saturating_add(scopes_of(ccts, expand, column));
+            let own = scopes_of(alloc, ccts, expand, column)?;
+            scopes = scopes.saturating_add(own);
         }
         if scopes > u64::from(MOST_SCOPES_IN_ALL) {
             return Err(Fail::Fault(TooManyScopes));
@@ -128,32 +133,42 @@ impl<'a> Plan<'a> {
         self.ccts.columns()
     }
 
-    /// The path of the plan with this number: its column, the raw path and its count.
-    fn path(&self, number: u32) -> (u32, &RawPath, u32)
+    /// The path of the plan with this number, in the memory of other frames: its column, the raw path and its count.
+    fn path(&self, number: u32, frames: Vec<Frame>) -> Result<(u32, Counted), Memory>
         requires { number < length self.now.paths }
-        ensures { slice_get self.now.paths number
-            ≡ Some (record { column = result.0; path = result.1.now; count = result.2 }) }
+        ensures { IfOk result (λ found. slice_get self.now.paths number
+            ≡ Some (record { column = found.0; path = found.1.path; count = found.1.count })) }
     {
         let column = last_from(self.firsts.as_slice(), number);
-        let (raw, count) = self.ccts.entry(column as u32, number - self.firsts[column]);
-        (column as u32, raw, count)
+        let counted = self
+            .ccts
+            .load(column as u32, number - self.firsts[column], frames)?;
+        Ok((column as u32, counted))
     }
 
-    /// The path with this number, expanded.
-    fn entry<E: Expand>(&self, expand: &E, memo: &mut E::Memo, number: u32) -> Result<Entry, Memory>
+    /// The path with this number, expanded; and the memory of the frames.
+    fn entry<E: Expand>(
+        &self,
+        expand: &E,
+        memo: &mut E::Memo,
+        number: u32,
+        frames: Vec<Frame>,
+    ) -> Result<(Entry, Vec<Frame>), Memory>
         requires number { number < length self.now.paths }
         requires memo { E.fits expand.now memo.old }
         ensures memo { E.fits expand.now memo.new }
-        ensures entry { IfOk result (λ entry.
-            slice_get (map (expanded_path (E.call_path expand.now)) self.now.paths) number ≡ Some entry) }
+        ensures entry { IfOk result (λ made.
+            slice_get (map (expanded_path (E.call_path expand.now)) self.now.paths) number ≡ Some made.0) }
     {
-        let (column, raw, count) = self.path(number);
-        let path = expand.expand(memo, raw)?;
-        Ok(Entry {
+        let (column, counted) = self.path(number, frames)?;
+        let Counted { path, count } = counted;
+        let scopes = expand.expand(memo, &path)?;
+        let entry = Entry {
             column,
             count,
-            path,
-        })
+            path: scopes,
+        };
+        Ok((entry, path.into_frames()))
     }
 
     /// The sixteen pieces of a chunk: its paths, expanded, dealt to the stripes by their keys.
@@ -174,8 +189,11 @@ impl<'a> Plan<'a> {
         let paths = self.paths;
         let mut lists = empty_lists(alloc)?;
         let first = chunk * CHUNK_PATHS;
+        let mut frames = Vec::new(alloc);
         for index in 0..CHUNK_PATHS.min(paths - first) {
-            let entry = self.entry(expand, memo, first + index)?;
+            let made = self.entry(expand, memo, first + index, frames)?;
+            let (entry, read) = made;
+            frames = read;
             deal(&mut lists, entry)?;
         }
         Pieces::of(alloc, chunk, lists)

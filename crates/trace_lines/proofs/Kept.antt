@@ -5,7 +5,7 @@ use Rattle.std.specs.List.{IsDistinct, position}
 use Rattle.std.proofs.lemmas.List.{get_or-map, get_or_append_left, length-append, length-map, map-append}
 use Rattle.std.proofs.lemmas.List.Elements.{All-append, All-cons, All-head, All-nil, All-tail, All-weaker}
 use Rattle.std.proofs.lemmas.List.Quantifiers.{position-Some}
-use Rattle.std.proofs.lemmas.Option.{slice_get-get_or}
+use Rattle.std.proofs.lemmas.Option.{get_or_from_slice_get, slice_get-get_or, slice_get_within}
 use Rattle.std.proofs.Math.Seq.{get_or-append_seam, take-length}
 use Rattle.scope_types.specs.declared.frame.Counted.{Counted}
 use Rattle.scope_types.specs.Raw.{Raw, same_raw}
@@ -98,23 +98,34 @@ new_of paths new_paths places new_places raw are new room paths_are places_are =
       few = omega (arith, room, more, places_long);
     }
 
--- a sample whose path is there
-found_raw : (paths : List Raw) (raw : Raw) (place : ℕ) → position (same_raw raw) paths ≡ Some place → (place < length paths) × (path_at paths place ≡ raw)
-found_raw paths raw place is = (let found = position-Some (same_raw raw) paths place _ is in (found.0, sym ((raw_decides raw (path_at paths place)).0 found.1)))
+-- ---- a sample whose path is there
 
-pub again_samples : (paths : List Raw) (places new_places : List ℕ) (raw : Raw) (place : ℕ) → position (same_raw raw) paths ≡ Some place → new_places ≡ places ++ place ∷ []
+-- where the path at a place tests the same as another, it is that one
+pub at_place : (paths : List Raw) (place : ℕ) (raw other : Raw) → slice_get paths place ≡ Some other → same_raw raw other ≡ true → slice_get paths place ≡ Some raw
+at_place paths place raw other at same = at ∙ ap (λ (r : Raw). Some r) (sym ((raw_decides raw other).0 same))
+
+-- and so it is at the first place where one tests the same
+pub sought_at : (paths : List Raw) (place : ℕ) (raw : Raw) → position (same_raw raw) paths ≡ Some place → slice_get paths place ≡ Some raw
+sought_at paths place raw is =
+    let found = position-Some (same_raw raw) paths place raw is in
+    at_place paths place raw (get_or paths place raw) (slice_get-get_or paths place raw found.0) found.1
+
+found_raw : (paths : List Raw) (raw : Raw) (place : ℕ) → slice_get paths place ≡ Some raw → (place < length paths) × (path_at paths place ≡ raw)
+found_raw paths raw place is = (slice_get_within paths place raw is, get_or_from_slice_get paths place raw _ is)
+
+pub again_samples : (paths : List Raw) (places new_places : List ℕ) (raw : Raw) (place : ℕ) → slice_get paths place ≡ Some raw → new_places ≡ places ++ place ∷ []
     → samples_at paths new_places ≡ samples_at paths places ++ raw ∷ []
 again_samples paths places new_places raw place is places_are =
     let found = found_raw paths raw place is in
     ap (samples_at paths) places_are ∙ map-append (path_at paths) places (place ∷ []) ∙ ap (λ (r : Raw). samples_at paths places ++ r ∷ []) found.1
 
-pub again_there : (paths : List Raw) (places : List ℕ) (raw : Raw) (place : ℕ) → ArePathsOf paths places → position (same_raw raw) paths ≡ Some place → has_raw raw (samples_at paths places) ≡ true
+pub again_there : (paths : List Raw) (places : List ℕ) (raw : Raw) (place : ℕ) → ArePathsOf paths places → slice_get paths place ≡ Some raw → has_raw raw (samples_at paths places) ≡ true
 again_there paths places raw place are is =
     let found = found_raw paths raw place is in
     let there : has_raw (path_at paths place) paths ≡ true = subst (λ (l : List Raw). has_raw (path_at paths place) l ≡ true) (take-length paths) (has_at paths place (length paths) found.0 found.0) in
     sym (among_distinct raw (samples_at paths places)) ∙ ap (has_raw raw) (sym are.distinct) ∙ ap (λ (r : Raw). has_raw r paths) (sym found.1) ∙ there
 
-pub again_of : (paths : List Raw) (places new_places : List ℕ) (raw : Raw) (place : ℕ) → ArePathsOf paths places → length places < most_samples → position (same_raw raw) paths ≡ Some place
+pub again_of : (paths : List Raw) (places new_places : List ℕ) (raw : Raw) (place : ℕ) → ArePathsOf paths places → length places < most_samples → slice_get paths place ≡ Some raw
     → new_places ≡ places ++ place ∷ [] → ArePathsOf paths new_places
 again_of paths places new_places raw place are room is places_are =
     let found = found_raw paths raw place is in
@@ -173,3 +184,5 @@ place_of paths places retired h sample place are view own is =
 -- two answers of one look-up
 pub sample_is : (samples : List Raw) (sample : ℕ) (found : Option Raw) (raw : Raw) → sample < length samples → found ≡ Some (path_at samples sample) → found ≡ Some raw → slice_get samples sample ≡ Some raw
 sample_is samples sample found raw own there is = slice_get-get_or samples sample _ own ∙ sym there ∙ is
+
+pub ruleset place_steps = (at_place, sought_at)

@@ -1,7 +1,7 @@
 mod Writing
 mod Distinct
 mod Places
-mod Kept
+pub mod Kept
 mod Sums
 mod Fullness
 mod HartSums

@@ -1,5 +1,6 @@
 //! The raw paths of one hart, each once, and the place of each sample's path among them.
 ghost use Rattle.std.specs.Prelude.{◌≡◌, ◌<◌, ◌≤◌, length, slice_get, Some, true, false, IfOk, OnOk, OnErr, All};
+ghost use Rattle.std.specs.Prelude.{MatchOption};
 ghost use Rattle.scope_types.specs.Limits.{most_samples};
 ghost use Rattle.trace_lines.specs.Traces.{distinct_paths, has_raw, idle_hart, with_retired, with_sample};
 ghost use Rattle.trace_lines.specs.Spelling.{place_among};
@@ -11,6 +12,7 @@ use prof_bytes::Memory;
 use scope_types::RawPath;
 use std::alloc::Global;
 use std::marker::Model;
+use thread_cct::{RecentPlaces, is_same_raw};
 
 /// A hart of a trace: the instructions that it retired, its distinct raw paths in order of first sample, and for each
 /// sample the place of its path. Contracts see the retired instructions and the raw path of each sample.
@@ -19,6 +21,7 @@ pub(crate) struct HartPaths {
     retired: u64,
     paths: IndexSet<RawPath>,
     places: Vec<u32>,
+    recent: RecentPlaces,
 }
 
 impl Model for HartPaths {
@@ -54,6 +57,33 @@ fn put_new(paths: &mut IndexSet<RawPath>, places: &mut Vec<u32>, raw: RawPath) -
     Ok(())
 }
 
+/// Whether a raw path is at a place.
+#[inline(always)]
+#[tactic(auto, using(crate::proofs::Kept::place_steps))]
+fn is_at(paths: &IndexSet<RawPath>, place: usize, raw: &RawPath) -> bool
+    ensures { result ≡ true → slice_get paths.now.keys place ≡ Some raw.now }
+{
+    match paths.get_index(place) {
+        Some(path) => is_same_raw(raw, path),
+        None => false,
+    }
+}
+
+/// The place of a raw path, if it is there. It is sought by hashing where it isn't at `recent`.
+#[inline(always)]
+#[tactic(auto, using(crate::proofs::Kept::place_steps))]
+fn find_place(paths: &IndexSet<RawPath>, recent: usize, raw: &RawPath) -> Option<u32>
+    requires { length paths.now.keys ≤ most_samples }
+    ensures { MatchOption result (has_raw raw.now paths.now.keys ≡ false)
+        (λ place. slice_get paths.now.keys place ≡ Some raw.now) }
+{
+    if is_at(paths, recent, raw) {
+        return Some(recent as u32);
+    }
+    let place = paths.get_index_of(raw)?;
+    Some(place as u32)
+}
+
 impl HartPaths {
     /// No samples.
     pub fn new(alloc: Global) -> HartPaths
@@ -63,6 +93,7 @@ impl HartPaths {
             retired: 0,
             paths: IndexSet::new(alloc),
             places: Vec::new(alloc),
+            recent: RecentPlaces::new(),
         }
     }
 
@@ -75,6 +106,7 @@ impl HartPaths {
             retired,
             paths,
             places,
+            recent: RecentPlaces::new(),
         }
     }
 
@@ -137,10 +169,11 @@ impl HartPaths {
         ensures kept { IfOk result (λ found. found ≡ false → self.new ≡ self.old) }
         ensures err { OnErr result (self.new ≡ self.old) }
     {
-        let Some(place) = self.paths.get_index_of(raw) else {
+        let Some(place) = find_place(&self.paths, self.recent.get(raw), raw) else {
             return Ok(false);
         };
-        self.places.push(place as u32)?;
+        self.places.push(place)?;
+        self.recent.set(raw, place as usize);
         Ok(true)
     }
 

@@ -22,7 +22,7 @@ const HEAD: MeasureHead = MeasureHead {
 };
 
 /// What a row changes: bytes at places, and how many bytes of the file there are; and where the fault is.
-static REFUSALS: [(&str, &[(usize, u8)], usize, u64); 17] = [
+static REFUSALS: [(&str, &[(usize, u8)], usize, u64); 23] = [
     ("without the last byte", &[], 91, 88),
     ("with a byte after", &[], 93, 92),
     ("another word at the start", &[(0, 0x49)], 92, 0),
@@ -45,6 +45,41 @@ static REFUSALS: [(&str, &[(usize, u8)], usize, u64); 17] = [
     ("no frames", &[(36, 0)], 92, 36),
     ("513 frames", &[(37, 2)], 92, 36),
     ("a path twice", &[(56, 0x10)], 92, 56),
+    ("the last path is the first", &[(88, 0x10)], 92, 88),
+    ("two repeats", &[(72, 0x24), (88, 0x10)], 92, 72),
+    ("a repeat and a later cut", &[(56, 0x10)], 91, 56),
+    ("a repeat and a byte after", &[(88, 0x10)], 93, 88),
+    (
+        "a repeat and a later count 0",
+        &[(56, 0x10), (60, 0)],
+        92,
+        56,
+    ),
+    ("a count 0 before a repeat", &[(60, 0), (88, 0x10)], 92, 60),
+];
+
+/// The same program on two harts, with two samples each. The first path of both is the same one.
+static TWO_HARTS: [u8; 96] =
+    *b"HPCRUNM1\xa8\x00\x00\x00\x00\x00\x01\x00\x05\x00\x00\x00\x02\x00\x00\x00\x02\x00\x00\x00\
+\x01\x00\x00\x00\x00\x00\x00\x00\x01\x00\x00\x00\x10\x00\x01\x00\
+\x01\x00\x00\x00\x00\x00\x00\x00\x01\x00\x00\x00\x24\x00\x01\x00\x02\x00\x00\x00\
+\x01\x00\x00\x00\x00\x00\x00\x00\x01\x00\x00\x00\x10\x00\x01\x00\
+\x01\x00\x00\x00\x00\x00\x00\x00\x01\x00\x00\x00\x38\x00\x01\x00";
+
+/// The bytes of that file that a row changes, and where the fault is, if there is one.
+static HART_ROWS: [(&str, &[(usize, u8)], Option<u64>); 4] = [
+    ("a path of both harts", &[], None),
+    ("a path of the second hart twice", &[(92, 0x10)], Some(92)),
+    (
+        "a path of each hart twice",
+        &[(56, 0x10), (92, 0x10)],
+        Some(56),
+    ),
+    (
+        "a repeat that ends in another way",
+        &[(84, 1), (92, 0x10)],
+        None,
+    ),
 ];
 
 /// The offset of the first fault.
@@ -56,11 +91,16 @@ fn fault(alloc: Global, bytes: &[u8]) -> Result<Option<u64>, Memory> {
     }
 }
 
-/// The file's first bytes, and zeros after its end, with changes.
-fn changed(alloc: Global, changes: &[(usize, u8)], size: usize) -> Result<Vec<u8>, Memory> {
+/// A file's first bytes, and zeros after its end, with changes.
+fn changed(
+    alloc: Global,
+    file: &[u8],
+    changes: &[(usize, u8)],
+    size: usize,
+) -> Result<Vec<u8>, Memory> {
     let mut bytes = Vec::new(alloc);
     for offset in 0..size {
-        let mut byte = match MEASUREMENT.get(offset) {
+        let mut byte = match file.get(offset) {
             Some(byte) => *byte,
             None => 0,
         };
@@ -80,7 +120,7 @@ fn changed_fault(
     changes: &[(usize, u8)],
     size: usize,
 ) -> Result<Option<u64>, Memory> {
-    let bytes = changed(alloc, changes, size)?;
+    let bytes = changed(alloc, &MEASUREMENT, changes, size)?;
     fault(alloc, &bytes)
 }
 
@@ -88,6 +128,17 @@ fn changed_fault(
 fn wrong_row(alloc: Global) -> Result<Option<&'static str>, Memory> {
     for (name, changes, size, offset) in &REFUSALS {
         if changed_fault(alloc, changes, *size)? != Some(*offset) {
+            return Ok(Some(*name));
+        }
+    }
+    Ok(None)
+}
+
+/// The first row of two harts that has its fault elsewhere.
+fn wrong_hart_row(alloc: Global) -> Result<Option<&'static str>, Memory> {
+    for (name, changes, offset) in &HART_ROWS {
+        let bytes = changed(alloc, &TWO_HARTS, changes, TWO_HARTS.len())?;
+        if fault(alloc, &bytes)? != *offset {
             return Ok(Some(*name));
         }
     }
@@ -145,5 +196,11 @@ fn wrong_row_and_front(alloc: Global) -> Result<(Option<&'static str>, Option<us
 #[test]
 fn first_faults(rt: HostRuntime) -> Result<(), Failed> {
     assert_eq!(rt; wrong_row_and_front(rt.alloc())?, (None, None));
+    Ok(())
+}
+
+#[test]
+fn repeats_of_two_harts(rt: HostRuntime) -> Result<(), Failed> {
+    assert_eq!(rt; wrong_hart_row(rt.alloc())?, None);
     Ok(())
 }

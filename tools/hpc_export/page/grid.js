@@ -7,6 +7,10 @@ const TWICE = 500;
 const MEDIUM = 540, LEAST_FIGURE = 104, WIDE_NAME = 420, LEAST_NAME = 190;
 const IMBALANCE = 112;
 
+// A name for a row with room for so many letters: that of a call goes without "call" first, so that more of what it calls
+// is seen.
+const fittedRow = (name, letters) => shortened(name.length > letters ? name.replace(/^call /, "") : name, letters);
+
 class Grid {
   constructor() {
     this.element = document.getElementById("grid");
@@ -57,7 +61,7 @@ class Grid {
       const sorts = this.sort.column === column;
       cell.setAttribute("role", "columnheader");
       cell.setAttribute("aria-sort", sorts ? (this.sort.down ? "descending" : "ascending") : "none");
-      cell.className = column === "imbalance" ? "most" : place === 4 ? "more" : "";
+      cell.className = column === "imbalance" ? "most" : isMore(column, place - 1) ? "more" : "";
       if (column === "imbalance") cell.title = "The greatest over the mean of the harts that have samples here";
       button.type = "button";
       button.textContent = (HEADS[column] || "Scope") + (sorts ? (this.sort.down ? " ▾" : " ▴") : "");
@@ -275,7 +279,7 @@ class Grid {
     twist.className = "twist";
     twist.setAttribute("aria-hidden", "true");
     twist.textContent = row.has ? (row.open ? "▾" : "▸") : "";
-    name.append(twist, shortened(row.shown || row.name, letters));
+    name.append(twist, fittedRow(row.shown || row.name, letters));
     return name;
   }
 
@@ -285,12 +289,11 @@ class Grid {
     cell.classList.add("figure");
     cell.classList.toggle("zero", !value);
     cell.classList.toggle("share", column.endsWith("share"));
-    cell.classList.toggle("more", k === 3);
+    cell.classList.toggle("more", isMore(column, k));
     cell.classList.toggle("most", column === "imbalance");
-    const text = textOf(value, column, total), isShort = this.isShort && !isRatio(column) && column !== "change";
+    const text = textOf(value, column, total), isShort = this.isShort && !isRatio(column);
     if (column.endsWith("share")) cell.style.setProperty("--part", `${100 * value / (total || 1)}%`);
-    cell.textContent = isShort && !column.endsWith("share")
-      ? shortFigure(isCompared(column) ? value / view.shown.period : value) : text;
+    cell.textContent = isShort && !column.endsWith("share") ? shortText(value, column) : text;
     if (this.isShort) cell.title = text;
     return cell;
   }

@@ -150,14 +150,16 @@ const grouped = new Intl.NumberFormat("en");
 const figure = samples => grouped.format(samples * view.shown.period);
 
 // A figure of few letters, rounded down: 11.6 M.
-function shortFigure(samples) {
-  const value = samples * view.shown.period, units = ["", " k", " M", " G", " T"];
+function shortValue(value) {
+  const units = ["", " k", " M", " G", " T"];
   let unit = 0;
   while (unit < 4 && value >= 1000 ** (unit + 1)) unit++;
   if (!unit) return String(value);
   const tenths = Math.floor(value / 1000 ** unit * 10);
   return (tenths < 1000 ? `${Math.floor(tenths / 10)}.${tenths % 10}` : String(Math.floor(tenths / 10))) + units[unit];
 }
+
+const shortFigure = samples => shortValue(samples * view.shown.period);
 
 // Tenths of a percent, rounded down.
 const share = (part, total) => {

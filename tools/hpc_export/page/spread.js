@@ -120,15 +120,17 @@ class Bars {
     const all = shown.spreads.of(row ? row.nodes : nodesOf(graph, icicle.selected));
     const {values, names} = this.isByRun ? byRun(all) : {values: all, names: all.map((_, hart) => hartName(hart))};
     const found = summaryOf(values);
-    this.tell(row ? row.name : graph.label(icicle.selected), found, values.length);
+    const name = document.getElementById("spread-name");
+    name.textContent = row ? row.shown || row.name : graph.shown(icicle.selected);
+    name.title = row ? row.name : graph.label(icicle.selected);
+    this.tell(found, values.length);
     this.draw(values, names, found);
   }
 
   // Figures are rounded down.
-  tell(name, {harts, sum, least, greatest, deviation, imbalance}, all) {
+  tell({harts, sum, least, greatest, deviation, imbalance}, all) {
     const {period} = view.shown, whole = value => grouped.format(Math.floor(value));
     const mean = harts ? sum * period / harts : 0;
-    document.getElementById("spread-name").textContent = name;
     document.getElementById("spread-figures").textContent = [
       `inclusive in ${harts} of ${all} ${this.isByRun ? "runs" : "harts"}`, `least ${figure(least)}`, `mean ${whole(mean)}`,
       `greatest ${figure(greatest)}`, `standard deviation ${whole(deviation * period)}`,

@@ -32,6 +32,8 @@ function valueOf(row, column) {
 }
 
 const isRatio = column => column === "imbalance", isCompared = column => column === "before" || column === "change";
+// The column that goes first where there is little room.
+const isMore = (column, place) => profile.before ? column === "before" : place === 3;
 const signed = value => (value > 0 ? "+" : "") + grouped.format(value);
 
 // The whole text of a value.
@@ -39,6 +41,12 @@ function textOf(value, column, total) {
   if (column.endsWith("share")) return share(value, total);
   return isRatio(column) ? hundredths(value) : column === "change" ? signed(value)
     : isCompared(column) ? grouped.format(value) : figure(value);
+}
+
+// The same of few letters.
+function shortText(value, column) {
+  if (column === "change") return (value > 0 ? "+" : value < 0 ? "-" : "") + shortValue(Math.abs(value));
+  return isCompared(column) ? shortValue(value) : shortFigure(value);
 }
 
 // The rows that are unfolded, as lines of words: CSV as RFC 4180 has it, or separated by tabulators for a copy.

@@ -34,8 +34,9 @@ class View {
     chooser("run", [[-1, `all (${runs.length})`], ...runs.map(run => [run, run])], -1, run => this.setRun(Number(run)));
     document.getElementById("run-field").hidden = runs.length === 1;
     this.offerHarts();
-    // Of a comparison there are sums alone, without harts and places.
-    for (const id of ["hart-field", "tab-flat", "sources"]) document.getElementById(id).hidden = !!base.before;
+    // Of a comparison there are sums alone, without harts, places and files.
+    for (const id of ["hart-field", "graph-kind", "tab-flat", "focus-file", "hide-file", "sources"])
+      document.getElementById(id).hidden = !!base.before;
     for (const kind of Object.keys(GRAPHS))
       document.getElementById(`by-${kind}`).onclick = () => this.setGraph(kind);
     document.getElementById("by-cost").onclick = () => this.setOrder(!this.isByCost);

@@ -2,6 +2,7 @@
 use Rattle.std.specs.Prelude.{◌≡◌, ◌<◌, ◌≤◌, ◌+◌, ◌++◌, ℕ, List, length, map, slice_get, slice_index_or, Some, Ok}
 use Rattle.std.specs.List.{flat_map}
 use Rattle.std.specs.List.Sorted.{IsNonDecreasingBy}
+use Rattle.dwarf_forms.specs.Abbreviations.{table_at}
 use Rattle.dwarf_info.specs.declared.entry.UnitContext.{UnitContext}
 use Rattle.dwarf_info.specs.declared.entry.InfoEntry.{InfoEntry}
 use Rattle.dwarf_info.specs.Sections.{Sections}
@@ -13,8 +14,9 @@ use Rattle.dwarf_info.specs.private.Starts.{IsCountUpTo}
 abbrev pub offsets_of : List InfoEntry → List ℕ
 offsets_of entries = map (λ e. e.offset) entries
 
--- the entries of a unit without a fault
+-- the table and the entries of a unit without a fault
 pub record IsRead (sections : Sections) (context : UnitContext) : Type 0 where
+  pub table : table_at sections.abbrev_bytes context.header.debug_abbrev_offset ≡ Ok (declared_in sections context)
   pub entries : List InfoEntry
   pub read : entries_from (declared_in sections context) context.index (unit_body sections context.header) ≡ Ok entries
 

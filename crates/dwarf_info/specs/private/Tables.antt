@@ -1,5 +1,5 @@
--- The abbreviation tables that are known, by their offset.
-use Rattle.std.specs.Prelude.{◌≡◌, ◌<◌, ℕ, length, true, is_some, List, drop, Option, Some, option_map}
+-- The abbreviation tables that are known, by their offset, and what is known of others.
+use Rattle.std.specs.Prelude.{◌≡◌, ◌<◌, ℕ, length, true, is_some, List, drop, Option, Some, None, option_map}
 use Rattle.std.specs.Prelude.{option_and_then, slice_get, Ok}
 use Rattle.std.specs.Ordering.{nat_cmp}
 use Rattle.std.specs.BTreeMap.{get}
@@ -9,7 +9,7 @@ use Rattle.dwarf_info.specs.declared.tables.TableAt.{TableAt}
 use Rattle.dwarf_info.specs.declared.tables.TableAt.TheVariants as found
 use Rattle.dwarf_info.specs.declared.tables.Suffix.{Suffix}
 use Rattle.dwarf_info.specs.declared.tables.Tables.{Tables}
-use Rattle.dwarf_info.specs.declared.entry.UnitContext.{UnitContext}
+use Rattle.dwarf_info.specs.private.CodeLists.{AreCodeLists}
 
 -- the declarations of a suffix of one of the tables that were read
 abbrev pub suffix_of : List (List Abbrev) → Suffix → Option (List Abbrev)
@@ -31,10 +31,7 @@ pub record AreTables (section : List ℕ) (tables : Tables) : Type 0 where
       → suffix.table < length tables.read.items
   pub are : (offset : ℕ) (table : List Abbrev) → table_in tables offset ≡ Some table
       → table_at section offset ≡ Ok table
-
--- none is lost
-abbrev pub KeepTables : Tables → Tables → Type 0
-KeepTables old new = (offset : ℕ) → is_some (table_in old offset) ≡ true → is_some (table_in new offset) ≡ true
+  pub lists : AreCodeLists section tables.lists.items
 
 -- the table at an offset is known, the end of one that was read, or read now
 abbrev pub IsFound : List ℕ → Tables → TableAt → ℕ → Type 0
@@ -42,14 +39,12 @@ IsFound section tables found.Known offset = is_some (table_in tables offset) ≡
 IsFound section tables (found.End suffix) offset = IsSuffix section tables.read.items suffix offset
 IsFound section tables (found.Read table) offset = table_at section offset ≡ Ok table
 
--- the table at an offset is known too
-pub record IsTableKnown (section : List ℕ) (old new : Tables) (offset : ℕ) : Type 0 where
-  pub are : AreTables section new
-  pub keep : KeepTables old new
-  pub has : is_some (table_in new offset) ≡ true
+-- each is the table at its offset, and the one at an offset is known
+pub record IsTableKnown (section : List ℕ) (tables : Tables) (offset : ℕ) : Type 0 where
+  pub are : AreTables section tables
+  pub has : is_some (table_in tables offset) ≡ true
 
--- each unit's table is among them
-abbrev pub HaveTables : Tables → List UnitContext → Type 0
-HaveTables tables units =
-    (i : ℕ) (context : UnitContext) → slice_get units i ≡ Some context
-    → is_some (table_in tables context.header.debug_abbrev_offset) ≡ true
+-- the table at an offset is known, or it is not kept and was given back
+abbrev pub IsKnownOr : List ℕ → Tables → Option (List Abbrev) → ℕ → Type 0
+IsKnownOr section tables None offset = is_some (table_in tables offset) ≡ true
+IsKnownOr section tables (Some table) offset = table_at section offset ≡ Ok table

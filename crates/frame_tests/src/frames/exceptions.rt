@@ -8,7 +8,7 @@ use prof_bytes::Memory;
 use std::alloc::Global;
 use std::test::Fail;
 use test_programs::program::{UNREADABLE, Unread, image_of};
-use test_programs::rows::{bytes_of, replaced};
+use test_programs::rows::{bytes_of, no_row, replaced};
 
 mod by_readelf;
 mod by_standard;
@@ -187,25 +187,21 @@ fn other_than_standard(alloc: Global) -> Result<Option<&'static str>, Unread> {
 #[test]
 fn exception_frames_of_gxx(rt: HostRuntime) -> Result<(), Fail> {
     let other = other_row(rt.alloc(), by_readelf::gxx(), 0x1_0200, &by_readelf::GXX)?;
-    assert_eq!(rt; other, None);
-    Ok(())
+    no_row(other)
 }
 
 #[test]
 fn exception_frames_as_readelf_reads_them(rt: HostRuntime) -> Result<(), Fail> {
-    assert_eq!(rt; other_than_readelf(rt.alloc())?, None);
-    Ok(())
+    no_row(other_than_readelf(rt.alloc())?)
 }
 
 #[test]
 fn exception_frames_as_the_standard_says(rt: HostRuntime) -> Result<(), Fail> {
-    assert_eq!(rt; other_than_standard(rt.alloc())?, None);
-    Ok(())
+    no_row(other_than_standard(rt.alloc())?)
 }
 
 #[test]
 fn encodings_of_addresses_that_are_not_read(rt: HostRuntime) -> Result<(), Fail> {
     let other = other_row(rt.alloc(), by_hand(), 0x2_0000, &by_standard::UNREAD)?;
-    assert_eq!(rt; other, None);
-    Ok(())
+    no_row(other)
 }

@@ -59,7 +59,7 @@ GivesNext path_of (Err fail) old new = Stops path_of fail old new
 -- ---- an epoch
 
 -- the samples of an epoch were given, and counted: with those of all epochs before, and alone. It has as many as were
--- asked for, or it is the last, and the run is at its end
+-- asked for; or it is the last, which may have fewer, and the run is at its end
 pub record IsEpoch (path_of : Paths) (columns most : ℕ) (done : List ColumnRaw) (epoch : Epoch)
     (all : List (List Counted)) (old new : Sampling) : Type 0 where
   pub given : List Sample
@@ -74,6 +74,7 @@ pub record IsEpoch (path_of : Paths) (columns most : ℕ) (done : List ColumnRaw
   pub met : new.met ≡ old.met + length given
   pub few : new.met ≤ most_samples
   pub count : samples_in all ≡ new.met
+  pub within : length given ≤ most
   pub full : epoch.is_last ≡ false → length given ≡ most
   pub ended : epoch.is_last ≡ true → new.machine.state ≡ (to_come old.machine).final
   pub last : (to_come new.machine).final ≡ (to_come old.machine).final

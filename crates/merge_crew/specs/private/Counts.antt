@@ -1,5 +1,5 @@
 -- What a worker counts, beside what its pass shows.
-use Rattle.std.specs.Prelude.{◌≡◌, ℕ, ◌+◌, ◌*◌, ◌<◌, ◌≤◌, ◌⊎◌, ◌^◌, None, true, length}
+use Rattle.std.specs.Prelude.{◌≡◌, ℕ, ◌+◌, ◌*◌, ◌<◌, ◌≤◌, ◌⊎◌, ◌^◌, None, true, [], length}
 use Rattle.scope_types.specs.Limits.{stripe_count}
 use Rattle.stripe_table.specs.Values.{StripesValue, IsPassOf}
 use Rattle.stripe_table.specs.declared.view.Hold.TheVariants.{Free}
@@ -37,6 +37,8 @@ pub record IsIdle (stripes : StripesValue) (w : Worker) : Type 0 where
   pub counts : Counts stripes 0 w
   pub none : w.pass.view.got ≡ 0
   pub over : w.pass.view.over ≡ 0
+  pub owed : w.pass.view.owed ≡ []
+  pub offered : w.pass.offered ≡ []
 
 -- unless memory ran out, it drew as many numbers as there are chunks, or one past the last
 abbrev pub DrewAll : StripesValue → Worker → Type 0

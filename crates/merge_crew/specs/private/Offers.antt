@@ -12,6 +12,7 @@ pub record OnlyOffers (v w : PassView) : Type 0 where
   pub first : w.first ≡ v.first
   pub got : w.got ≡ v.got
   pub over : w.over ≡ v.over
+  pub drawn : w.drawn ≡ v.drawn
   pub splits : w.splits ≡ v.splits
   pub joins : w.joins ≡ v.joins
   pub free : w.hold ≡ Free
@@ -33,6 +34,16 @@ OfferedOnce v w (Memory failed) = (length w.puts ≡ length v.puts) × (w.met �
 -- and a busy one is owed as before
 abbrev pub OffersOnce : PassView → PassView → Offered → Type 0
 OffersOnce v w r = OfferedOnce v w r × OwesBusy v w r
+
+-- where a piece of chunk c for stripe s was merged or present, it is owed once less, and all others are owed as before;
+-- the pieces that are owed are one less
+abbrev pub OwesLess : ℕ → ℕ → PassView → PassView → Offered → Type 0
+OwesLess c s v w Merged = ((d t : ℕ) → owes d t w + weight (is_piece d t (c, s)) ≡ owes d t v)
+    × (length w.owed + 1 ≡ length v.owed)
+OwesLess c s v w (Present p) = ((d t : ℕ) → owes d t w + weight (is_piece d t (c, s)) ≡ owes d t v)
+    × (length w.owed + 1 ≡ length v.owed)
+OwesLess c s v w (Busy l f) = Unit {0}
+OwesLess c s v w (Memory failed) = Unit {0}
 
 -- of all pieces, one of chunk c for stripe s at most is owed less
 abbrev pub OwesRest : ℕ → ℕ → PassView → PassView → Type 0

@@ -1,10 +1,12 @@
 -- Pieces that wait for their stripes.
-use Rattle.std.specs.Prelude.{ℕ, ◌+◌, ◌-◌, ◌*◌, ◌<◌, ◌≤◌, All, List}
+use Rattle.std.specs.Prelude.{ℕ, ◌≡◌, ◌+◌, ◌-◌, ◌*◌, ◌<◌, ◌≤◌, All, List, None, cond, length}
 use Rattle.scope_types.specs.declared.path.Piece.{Piece}
 use Rattle.stripe_table.specs.Limits.{Chunks, IsPieceOf}
-use Rattle.stripe_table.specs.Views.{is_piece, owes, total, weight}
+use Rattle.stripe_table.specs.Values.{PassValue}
+use Rattle.stripe_table.specs.Views.{draws, is_piece, owes, times_piece, total, weight}
 use Rattle.stripe_table.specs.declared.view.PassView.{PassView}
 use Rattle.merge_crew.specs.declared.work.Waiting.{Waiting}
+use Rattle.merge_crew.specs.declared.work.Worker.{Worker}
 
 -- a piece that was not offered yet
 abbrev pub first_time : Piece → Waiting
@@ -29,3 +31,21 @@ pub record Waits (plan : Chunks) (queue : List Waiting) (v : PassView) (busy_lef
   pub few : All (λ p. p.offers < 64) queue
   pub owed : (c s : ℕ) → times_waiting c s queue ≤ owes c s v
   pub busy : 64 * busy_left + total (λ p. p.offers) queue ≤ v.busy
+
+-- how often a piece that waits may still be offered, where it is the piece (c, s)
+abbrev pub left_at : ℕ → ℕ → Waiting → ℕ
+left_at c s p = cond (is_piece c s (p.piece.chunk, p.piece.stripe)) (64 - p.offers) 0
+
+-- of a pass that left a given number of pieces busy: each piece that it owes was offered 64 times, but for the offers
+-- that are left of the pieces that wait and of those that come next. With these offers, no piece is offered more than
+-- 64 times for each draw of its chunk. The pieces that it owes are those that were left, that wait and that come next
+pub record Offering (next : List (ℕ × ℕ)) (queue : List Waiting) (pass : PassValue) (busy_left : ℕ) : Type 0 where
+  pub least : (c s : ℕ) → 64 * owes c s pass.view
+      ≤ times_piece c s pass.offered + (total (left_at c s) queue + 64 * times_piece c s next)
+  pub most : (c s : ℕ) → times_piece c s pass.offered + (total (left_at c s) queue + 64 * times_piece c s next)
+      ≤ 64 * draws c pass.view
+  pub left : length pass.view.owed ≡ busy_left + (length queue + length next)
+
+-- so it is of a worker, unless memory ran out
+abbrev pub OffersAll : List (ℕ × ℕ) → List Waiting → Worker → Type 0
+OffersAll next queue w = w.failed ≡ None → Offering next queue w.pass w.busy_left

@@ -10,7 +10,8 @@ use Rattle.stripe_table.specs.declared.view.Hold.TheVariants.{Holds}
 use Rattle.stripe_table.specs.declared.view.Last.TheVariants.{Saw}
 use Rattle.stripe_table.specs.declared.stripe.Stripe.{Stripe}
 use Rattle.stripe_table.specs.Fits.{Fits}
-use Rattle.stripe_table.specs.Views.{total, got, over, splits, joins, first, live, done, holds_stripe, owes, spent_view}
+use Rattle.stripe_table.specs.Views.{total, got, over, splits, joins, first, live, draws, done, holds_stripe, owes}
+use Rattle.stripe_table.specs.Views.{spent_view}
 
 -- of the word and the home of the stripe t, with d puts and h holders
 pub record StripeOk (p : Chunks) (t word : ℕ) (home : Option (Option Stripe)) (d h : ℕ) : Type 0 where
@@ -41,6 +42,8 @@ pub record Kept (p : Chunks) (ws : List ℕ) (hs : List (Option Stripe)) (vs : L
   pub past : 0 < total over vs → length p ≤ total got vs
   pub exact : total got vs + total over vs < 2 ^ 64
       → (slice_index ws 0 ≡ total got vs + total over vs) × (total got vs ≤ length p)
+  pub each : total got vs + total over vs < 2 ^ 64
+      → (c : ℕ) → (total (draws c) vs ≤ 1) × (slice_index ws 0 ≤ c → total (draws c) vs ≡ 0)
   pub ones : total first vs ≡ 1
   pub lives : total live vs + total joins vs ≡ 1 + total splits vs
   pub stripes : (t : ℕ) → t < stripe_count

@@ -6,7 +6,6 @@ use Rattle.dwarf_forms.proofs.Runs.{goes_on, is_done, is_spent, fails_by}
 use Rattle.dwarf_info.specs.Sections.{sections_of}
 use Rattle.dwarf_info.specs.Units.{unit_from, info_input, units_of}
 use Rattle.dwarf_info.proofs.Bodies.{before_none}
-use Rattle.dwarf_info.proofs.UnitLists.{have_more}
 use Rattle.dwarf_info.proofs.Indexed.{option_few, some_number, indexed_next}
 use Rattle.dwarf_info.proofs.units.read_units.Goals as goal
 
@@ -44,7 +43,6 @@ loop-preserved c =
       bytes = c.in_ok-unit.ensures.bytes ∙ c.loop.invariant.bytes;
       behind = c.in_ok-unit.ensures.behind;
       are = c.in_ok-unit.ensures.are;
-      have = rw (c.in_ok-push_some.ensures) (have_more c.loop.tables c.read_unit.new.tables c.loop.units.items c.in_ok-unit.«unit» c.in_ok-unit.ensures.keep c.loop.invariant.have c.in_ok-unit.ensures.has);
     }
 
 pub returns-clause-units : goal.returns-clause-units

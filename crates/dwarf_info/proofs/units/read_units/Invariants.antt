@@ -3,7 +3,7 @@ use Rattle.dwarf_forms.specs.Runs.{before, run_from}
 use Rattle.dwarf_info.specs.Sections.{sections_of}
 use Rattle.dwarf_info.specs.Units.{unit_from, info_input}
 use Rattle.dwarf_info.specs.private.Indexed.{AreIndexed}
-use Rattle.dwarf_info.specs.private.Tables.{AreTables, HaveTables}
+use Rattle.dwarf_info.specs.private.Tables.{AreTables}
 use Rattle.dwarf_info.proofs.units.read_units.Given as goal
 
 abbrev pub invariant-loop : goal.invariant-loop
@@ -17,5 +17,4 @@ invariant-loop l = record {
   bytes : l.starts.bytes ≡ length l.sections.info.now;
   behind : l.starts.end ≤ l.reader.at.offset;
   are : AreTables l.sections.«abbrev».now l.tables;
-  have : HaveTables l.tables l.units.items;
 }

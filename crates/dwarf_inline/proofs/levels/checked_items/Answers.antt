@@ -1,39 +1,66 @@
-use Rattle.std.proofs.Common.{◌<◌, length, rules, subst, sym}
-use Rattle.std.specs.Prelude.{All}
-use Rattle.std.proofs.lemmas.List.Elements.{All-push}
+use Rattle.std.proofs.Common.{rules, ◌<◌, length, map, ap, subst, sym, ◌∙◌, arith, ℕ, Result}
+use Rattle.std.specs.Prelude.{option_to_list}
+use Rattle.std.specs.List.{flat_map}
+use Rattle.std.proofs.lemmas.List.{take_all}
 use Rattle.prof_bytes.specs.Outcome.{FailsBy}
+use Rattle.dwarf_info.specs.Subroutines.{Indexed, item_entries}
+use Rattle.dwarf_inline.specs.declared.fault.StructureFault.{StructureFault}
+use Rattle.dwarf_inline.specs.Links.{identity, identity_offset, entry_offset}
 use Rattle.dwarf_inline.specs.Structure.{checked_items}
-use Rattle.dwarf_inline.proofs.Items.{end_there, item_within, item_end}
-use Rattle.dwarf_inline.proofs.OpenLevels.{levels_now, opens_more}
-use Rattle.dwarf_inline.proofs.CheckedItems.{passes_on, all_pass, fails_at, identity_more}
+use Rattle.dwarf_inline.specs.private.Names.{named, named_item}
+use Rattle.dwarf_inline.proofs.KeptEntries.{nothing, kept_long, kept_index, kept_within, end_within_ends, end_is}
+use Rattle.dwarf_inline.proofs.OpenLevels.{told, opens_kept}
+use Rattle.dwarf_inline.proofs.CheckedItems.{passes_on, all_pass, fails_at, one_more, some_more}
 use Rattle.dwarf_inline.proofs.levels.checked_items.Goals as goal
 
 pub bounds-ends-item : goal.bounds-ends-item
-bounds-ends-item c = end_there c.args.info.now c.args.items.now c.args.ends.now c.loop-item.item-index _ c.requires.items c.requires.ends c.loop-item-test.true
+bounds-ends-item c = end_within_ends c.args.info.now c.args.items.now c.args.ends.now c.loop-item.item-index _ c.requires.items c.requires.ends c.loop-item-test.true
 
-pub checked_item-requires-clause-entry : goal.checked_item-requires-clause-entry
-checked_item-requires-clause-entry c = item_within c.args.info.now c.args.items.now c.loop-item.item-index _ c.requires.items c.loop-item-test.true
-
-pub checked_item-requires-clause-levels : goal.checked_item-requires-clause-levels
-checked_item-requires-clause-levels c = λ inlined.
-    levels_now c.args.info.now c.args.items.now c.loop-item.item-index _ c.loop-item.open_ends.items c.requires.items c.loop-item-test.true c.loop-item.invariant.open_ends inlined
+pub checked_item-requires : goal.checked_item-requires
+checked_item-requires c = record { entry = kept_within c.args.info.now c.args.items.now c.loop-item.item-index _ c.requires.items c.loop-item-test.true }
 
 pub returns-in_err-identity-clause-gives : goal.returns-in_err-identity-clause-gives
 returns-in_err-identity-clause-gives c =
-    let failed : FailsBy c.in_err-identity.field-0.0 (checked_items c.args.info.now c.args.items.now) =
-    fails_at c.args.info.now c.args.items.now c.loop-item.item-index _ c.in_err-identity.field-0.0 _ c.loop-item-test.true c.in_err-identity.ensures.gives c.loop-item.invariant.checked in
+    let info = c.args.info.now in
+    let within : c.loop-item.item-index < length (item_entries info) = omega (arith, c.loop-item-test.true, kept_long info c.args.items.now c.requires.items) in
+    let failed : FailsBy c.in_err-identity.field-0.0 (checked_items info (item_entries info)) =
+    fails_at info (item_entries info) c.loop-item.item-index nothing c.in_err-identity.field-0.0 _ within
+    (subst (λ (r : Result (Unit {0}) StructureFault). FailsBy c.in_err-identity.field-0.0 r)
+    (told info c.args.items.now c.loop-item.item-index _ c.loop-item.open_ends.items c.requires.items c.loop-item-test.true c.loop-item.invariant.open_ends)
+    c.in_err-identity.ensures.gives) c.loop-item.invariant.checked in
     search rules
 
 pub loop-item-preserved : goal.loop-item-preserved
-loop-item-preserved c = record {
-  checked = passes_on c.args.info.now c.args.items.now c.loop-item.item-index _ _ c.loop-item-test.true c.in_ok-identity.ensures.gives c.loop-item.invariant.checked;
-  identities = identity_more c.args.info.now c.args.items.now c.loop-item.item-index _ c.in_ok-identity.identity c.loop-item.identities.items _ c.loop-item-test.true c.in_ok-identity.ensures.identity c.loop-item.invariant.identities c.in_ok-push.ensures.items;
-  within = subst (λ is. All (λ i. i < length c.args.info.now.entries) is) (sym c.in_ok-push.ensures.items)
-      (All-push (λ i. i < length c.args.info.now.entries) c.loop-item.identities.items c.in_ok-identity.identity c.loop-item.invariant.within c.in_ok-identity.ensures.in_range);
-  open_ends = opens_more c.args.info.now c.args.items.now c.loop-item.item-index _ _ c.loop-item.open_ends.items _ c.loop-item-test.true
-      (item_end c.args.info.now c.args.items.now c.args.ends.now c.loop-item.item-index _ c.requires.items c.requires.ends c.loop-item-test.true)
-      c.loop-item.invariant.open_ends c.in_ok-identity.ensures.opened;
-}
+loop-item-preserved c =
+    let info = c.args.info.now in
+    let within : c.loop-item.item-index < length (item_entries info) = omega (arith, c.loop-item-test.true, kept_long info c.args.items.now c.requires.items) in
+    let same = c.in_ok-identity.ensures.identity ∙ ap (identity info) (kept_index info c.args.items.now c.loop-item.item-index _ c.requires.items c.loop-item-test.true) in
+    record {
+      checked = passes_on info (item_entries info) c.loop-item.item-index nothing _ within
+          (sym (told info c.args.items.now c.loop-item.item-index _ c.loop-item.open_ends.items c.requires.items c.loop-item-test.true c.loop-item.invariant.open_ends)
+          ∙ c.in_ok-identity.ensures.gives) c.loop-item.invariant.checked;
+      offsets = one_more (λ (e : Indexed). identity_offset info e.0) (item_entries info) c.loop-item.item-index nothing _ c.loop-item.identities.offsets.items _ within
+          (ap (entry_offset info) same) c.loop-item.invariant.offsets c.in_ok-add_identity.ensures.offsets;
+      names = some_more (named_item info) (item_entries info) c.loop-item.item-index nothing _ _ _ within
+          (ap (λ (i : ℕ). option_to_list (named info i (entry_offset info i))) same) c.loop-item.invariant.names c.in_ok-add_identity.ensures.names;
+      open_ends = opens_kept info c.args.items.now c.loop-item.item-index _ _ c.loop-item.open_ends.items _ c.requires.items c.loop-item-test.true
+          (end_is info c.args.items.now c.args.ends.now c.loop-item.item-index _ c.requires.items c.requires.ends c.loop-item-test.true)
+          c.loop-item.invariant.open_ends c.in_ok-identity.ensures.opened;
+    }
 
 pub returns-clause-gives : goal.returns-clause-gives
-returns-clause-gives c = all_pass c.args.info.now c.args.items.now c.loop-item.item-index _ c.loop-item-test.false c.loop-item.invariant.checked
+returns-clause-gives c =
+    all_pass c.args.info.now (item_entries c.args.info.now) c.loop-item.item-index _
+    (omega (arith, c.loop-item-test.false, kept_long c.args.info.now c.args.items.now c.requires.items)) c.loop-item.invariant.checked
+
+pub returns-clause-offsets : goal.returns-clause-offsets
+returns-clause-offsets c =
+    c.loop-item.invariant.offsets
+    ∙ ap (map (λ (e : Indexed). identity_offset c.args.info.now e.0)) (take_all c.loop-item.item-index (item_entries c.args.info.now)
+    (omega (arith, c.loop-item-test.false, kept_long c.args.info.now c.args.items.now c.requires.items)))
+
+pub returns-clause-names : goal.returns-clause-names
+returns-clause-names c =
+    c.loop-item.invariant.names
+    ∙ ap (flat_map (named_item c.args.info.now)) (take_all c.loop-item.item-index (item_entries c.args.info.now)
+    (omega (arith, c.loop-item-test.false, kept_long c.args.info.now c.args.items.now c.requires.items)))

@@ -16,4 +16,4 @@ loop-stripe-preserved c = let e = c.settle_piece.ensures in let k = c.in_ok-sett
     let here : (f t : ℕ) → (f ≡ c.args._chunk → t ≡ s → ⊥) → occurrences f (stripe_names d t) ≡ occurrences f (stripe_names b t) = λ f t ne. e.others f t (λ x y. ne (x ∙ chunk) (y ∙ stripe)) in
     let named : 0 < occurrences c.args._chunk (stripe_names d s) = subst (λ (z : ℕ × ℕ). 0 < occurrences z.0 (stripe_names d z.1)) (λ j. (chunk j, stripe j)) k.named in
     let sum = k.count.0 in let one = k.count.1 in let before = i.4 in let few = i.5 in
-    (e.view ∙ i.0, e.fits, named_after a b d c.args._chunk s i.3 here i.2 named, others_after a b d c.args._chunk s i.3 here, omega arith, omega arith)
+    (e.view ∙ i.0, e.fits, named_after a b d c.args._chunk s i.3 here i.2 named, others_after a b d c.args._chunk s i.3 here, omega arith, omega arith, e.offered ∙ i.6)

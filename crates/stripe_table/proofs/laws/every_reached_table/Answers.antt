@@ -10,6 +10,9 @@ returns-clause-all_drawn c = always.all_drawn
 pub returns-clause-in_order : goal.returns-clause-in_order
 returns-clause-in_order c = always.in_order
 
+pub returns-clause-each_once : goal.returns-clause-each_once
+returns-clause-each_once c = always.each_once
+
 pub returns-clause-odd_is_held : goal.returns-clause-odd_is_held
 returns-clause-odd_is_held c = always.odd_held
 

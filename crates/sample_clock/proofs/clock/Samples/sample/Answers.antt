@@ -1,13 +1,12 @@
-use Rattle.std.proofs.Common.{◌≡◌, ◌∷◌, Bool, true, Option, sym, ap, subst, ◌∙◌}
+use Rattle.std.proofs.Common.{◌≡◌, Bool, sym, ap, subst, ◌∙◌}
 use Rattle.std.specs.Prelude.{option_to_list}
 use Rattle.rv_run.specs.State.{hart_of}
-use Rattle.sample_clock.specs.declared.clock.Sample.{Sample}
 use Rattle.sample_clock.specs.Samples.{words_of}
 use Rattle.sample_clock.specs.Clock.{Sampling}
-use Rattle.sample_clock.specs.private.Advance.{CarriedOut, OneSampled, Quiet, first_sample}
+use Rattle.sample_clock.specs.private.Advance.{CarriedOut, Quiet, with_pending}
 use Rattle.sample_clock.proofs.Advancing.{broke-next, quiet-none}
 use Rattle.sample_clock.proofs.Carrying.{sampling}
-use Rattle.sample_clock.proofs.Sampled.{one-sampled, own-samples, unretired-quiet}
+use Rattle.sample_clock.proofs.Sampled.{kept-dropped, kept-sampled, kept-unretired}
 use Rattle.sample_clock.proofs.clock.Samples.sample.Goals as goal
 
 pub returns-in_err-path : goal.returns-in_err-path
@@ -20,28 +19,26 @@ returns-in_err-second g c =
     broke-next (g.U.Unwind.path_of c.args.unwinder.now) c.args.coming.now c.from_residual-in_err-second.result c.args.self.now c.second_sample.new.self c.from_residual-in_err-second.ensures.0
     (subst (Quiet (g.U.Unwind.path_of c.args.unwinder.now) c.args.self.now) (sym (c.in_err-second.ensures.same ∙ c.self.view_is)) (quiet-none (g.U.Unwind.path_of c.args.unwinder.now) c.args.self.now))
 
-pub returns-in_err-carry_out : goal.returns-in_err-carry_out
-returns-in_err-carry_out g c =
-    broke-next (g.U.Unwind.path_of c.args.unwinder.now) c.args.coming.now c.from_residual-in_err-carry_out.result c.args.self.now c.carry_out.new.self c.from_residual-in_err-carry_out.ensures.0
-    (subst (Quiet (g.U.Unwind.path_of c.args.unwinder.now) c.args.self.now) (sym (c.in_err-carry_out.ensures.err ∙ c.in_ok-second.ensures.same ∙ c.self.view_is)) (quiet-none (g.U.Unwind.path_of c.args.unwinder.now) c.args.self.now))
-
-pub returns-then-not-branch : goal.returns-then-not-branch
-returns-then-not-branch g c =
-    unretired-quiet (g.U.Unwind.path_of c.args.unwinder.now) c.args.coming.now c.args.self.now c.carry_out.new.self
-    (subst (λ (b : Bool). CarriedOut c.args.coming.now b c.args.self.now c.carry_out.new.self) c.if-not-branch.true
-    (subst (λ (s : Sampling). CarriedOut c.args.coming.now c.in_ok-carry_out.field-0 s c.carry_out.new.self) (c.in_ok-second.ensures.same ∙ c.self.view_is) c.in_ok-carry_out.ensures.ok))
-
 pub keep-requires : goal.keep-requires
-keep-requires g c =
-    (let carried : CarriedOut c.args.coming.now c.in_ok-carry_out.field-0 c.args.self.now c.carry_out.new.self = subst (λ (s : Sampling). CarriedOut c.args.coming.now c.in_ok-carry_out.field-0 s c.carry_out.new.self) (c.in_ok-second.ensures.same ∙ c.self.view_is) c.in_ok-carry_out.ensures.ok in carried.passes.pending ∙ c.requires.pending)
+keep-requires g c = ap (λ (s : Sampling). s.pending) (c.in_ok-second.ensures.same ∙ c.self.view_is) ∙ c.requires.pending
 
-pub returns : goal.returns
-returns g c =
-    subst (OneSampled (g.U.Unwind.path_of c.args.unwinder.now) (first_sample c.args.coming.now c.in_ok-path.path) c.args.self.now) (sym c.keep.ensures)
-    (one-sampled (g.U.Unwind.path_of c.args.unwinder.now) c.args.coming.now c.args.self.now c.requires.coming c.requires.pending c.carry_out.new.self
-    (subst (λ (b : Bool). CarriedOut c.args.coming.now b c.args.self.now c.carry_out.new.self) c.if-not-branch.false
-    (subst (λ (s : Sampling). CarriedOut c.args.coming.now c.in_ok-carry_out.field-0 s c.carry_out.new.self) (c.in_ok-second.ensures.same ∙ c.self.view_is) c.in_ok-carry_out.ensures.ok))
-    c.in_ok-path.path
+pub returns-in-Ok-true : goal.returns-in-Ok-true
+returns-in-Ok-true g c =
+    kept-sampled (g.U.Unwind.path_of c.args.unwinder.now) c.args.coming.now c.in_ok-path.path c.in_ok-second.second c.args.self.now c.keep.new.self c.carry_out-carried.new.self c.requires.coming c.requires.pending
     (subst (λ (s : Sampling). c.in_ok-path.path ≡ g.U.Unwind.path_of c.args.unwinder.now c.args.coming.now.pc (hart_of s.machine.state c.args.coming.now.hart).registers (words_of s.machine.state.memory)) c.self.view_is c.in_ok-path.ensures)
-    (first_sample c.args.coming.now c.in_ok-path.path) c.in_ok-second.second
-    (own-samples c.args.coming.now c.in_ok-path.path c.requires.sampled ∙ ap (λ (second : Option Sample). first_sample c.args.coming.now c.in_ok-path.path ∷ option_to_list second) (sym c.in_ok-second.ensures.second)))
+    c.requires.sampled c.in_ok-second.ensures.second
+    (c.keep.ensures ∙ ap (with_pending (option_to_list c.in_ok-second.second)) (c.in_ok-second.ensures.same ∙ c.self.view_is))
+    (subst (λ (b : Bool). CarriedOut c.args.coming.now b c.keep.new.self c.carry_out-carried.new.self) c.in-Ok-true.field-0-test c.in-Ok-true.ensures.ok)
+
+pub returns-in-Ok-false : goal.returns-in-Ok-false
+returns-in-Ok-false g c =
+    kept-unretired (g.U.Unwind.path_of c.args.unwinder.now) c.args.coming.now (option_to_list c.in_ok-second.second) c.args.self.now c.keep.new.self c.carry_out-carried.new.self c.drop_pending.new.self c.requires.pending
+    (c.keep.ensures ∙ ap (with_pending (option_to_list c.in_ok-second.second)) (c.in_ok-second.ensures.same ∙ c.self.view_is))
+    (subst (λ (b : Bool). CarriedOut c.args.coming.now b c.keep.new.self c.carry_out-carried.new.self) c.in-Ok-false.field-0-test c.in-Ok-false.ensures.ok)
+    c.drop_pending.ensures
+
+pub returns-in-Err : goal.returns-in-Err
+returns-in-Err g c =
+    kept-dropped (g.U.Unwind.path_of c.args.unwinder.now) (option_to_list c.in_ok-second.second) c.args.self.now c.keep.new.self c.carry_out-carried.new.self c.drop_pending-in-Err.new.self c.requires.pending
+    (c.keep.ensures ∙ ap (with_pending (option_to_list c.in_ok-second.second)) (c.in_ok-second.ensures.same ∙ c.self.view_is))
+    c.in-Err.ensures.err c.drop_pending-in-Err.ensures

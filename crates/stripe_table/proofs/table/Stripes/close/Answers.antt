@@ -33,6 +33,9 @@ returns-clause-sum c = (last c).4
 pub returns-clause-once : goal.returns-clause-once
 returns-clause-once c = (last c).5
 
+pub returns-clause-each : goal.returns-clause-each
+returns-clause-each c = (last c).6
+
 pub returns-clause-names : goal.returns-clause-names
 returns-clause-names c = λ t lt. long_there c.args.self.plan c.gather.result.items t _ ((last c).1 t lt)
 

@@ -23,8 +23,8 @@ loop-index-preserved g c =
     index_in _ _ _ c.self.inside.paths c.args.chunk c.loop-index.index _ c.self.invariant c.self.view_is c.requires.chunk c.min-index-end.ensures c.loop-index-test.true in
     let size = length-map c.args.self.now.paths (expanded_path (g.E.Expand.call_path c.args.expand.now)) in
     record {
-      lists = next_dealt _ (c.args.chunk * 64) c.loop-index.index _ _ _ _ refl (omega (arith, inside, size)) c.in_ok-entry.ensures.entry c.loop-index.invariant.lists c.in_ok-deal.ensures;
-      memo = c.in_ok-entry.ensures.memo;
+      lists = next_dealt _ (c.args.chunk * 64) c.loop-index.index _ _ _ _ refl (omega (arith, inside, size)) c.in_ok-made.ensures.entry c.loop-index.invariant.lists c.in_ok-deal.ensures;
+      memo = c.in_ok-made.ensures.memo;
     }
 
 pub of-requires : goal.of-requires

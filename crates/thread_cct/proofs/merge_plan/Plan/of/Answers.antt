@@ -8,7 +8,7 @@ loop-column-preserved g c =
     record {
       firsts = firsts_more c.args.ccts.now c.loop-column.column _ _ c.loop-column.paths inside c.loop-column.invariant.firsts c.loop-column.invariant.paths c.in_ok-push.ensures.items;
       paths = paths_more_of c.args.ccts.now c.loop-column.column c.loop-column.paths c.len-paths.result inside c.loop-column.invariant.paths c.len-paths.ensures;
-      scopes = c.saturating_add-scopes.ensures ∙ scopes_more (g.E.Expand.call_path c.args.expand.now) c.args.ccts.now c.loop-column.column c.loop-column.scopes c.scopes_of.result inside c.loop-column.invariant.scopes c.scopes_of.ensures;
+      scopes = c.saturating_add-scopes.ensures ∙ scopes_more (g.E.Expand.call_path c.args.expand.now) c.args.ccts.now c.loop-column.column c.loop-column.scopes c.in_ok-own.own inside c.loop-column.invariant.scopes c.in_ok-own.ensures;
     }
 
 pub invariant_of-result : goal.invariant_of-result

@@ -20,16 +20,16 @@ pub overflow_sub-number : goal.overflow_sub-number
 overflow_sub-number c =
     (placed _ _ _ _ c.self.inside.paths _ _ _ c.self.invariant c.self.view_is c.requires c.as_slice.ensures.value c.last_from-column.ensures.last c.last_from-column.ensures.within c.index.ensures).from
 
-pub entry-count-requires-clause-column : goal.entry-count-requires-clause-column
-entry-count-requires-clause-column c =
+pub load-requires-clause-column : goal.load-requires-clause-column
+load-requires-clause-column c =
     (placed _ _ _ _ c.self.inside.paths _ _ _ c.self.invariant c.self.view_is c.requires c.as_slice.ensures.value c.last_from-column.ensures.last c.last_from-column.ensures.within c.index.ensures).column_in
 
-pub entry-count-requires-clause-index : goal.entry-count-requires-clause-index
-entry-count-requires-clause-index c =
+pub load-requires-clause-index : goal.load-requires-clause-index
+load-requires-clause-index c =
     (placed _ _ _ _ c.self.inside.paths _ _ _ c.self.invariant c.self.view_is c.requires c.as_slice.ensures.value c.last_from-column.ensures.last c.last_from-column.ensures.within c.index.ensures).inside
 
 pub returns : goal.returns
 returns c =
     ap (λ (p : Planned). slice_get p.paths c.args.number) (sym c.self.view_is)
     ∙ (placed _ _ _ _ c.self.inside.paths _ _ _ c.self.invariant c.self.view_is c.requires c.as_slice.ensures.value c.last_from-column.ensures.last c.last_from-column.ensures.within c.index.ensures).is
-    _ c.entry-count.ensures
+    _ c.in_ok-counted.ensures

@@ -1,0 +1,51 @@
+use Rattle.std.proofs.Common.{◌≡◌, ◌<◌, refl, length, ap, ◌∙◌, arith}
+use Rattle.std.specs.List.{flat_map}
+use Rattle.std.proofs.lemmas.List.{take_all}
+use Rattle.dwarf_info.specs.Subroutines.{Indexed, item_entries}
+use Rattle.dwarf_inline.specs.Structure.{counted_ranges}
+use Rattle.dwarf_inline.proofs.CheckedItems.{some_more}
+use Rattle.dwarf_inline.proofs.Items.{ranges_so_far}
+use Rattle.dwarf_inline.proofs.KeptEntries.{nothing, kept_long, kept_at, kept_index, kept_within}
+use Rattle.dwarf_inline.proofs.DetailPlaces.{none_placed, one_placed}
+use Rattle.dwarf_inline.proofs.Whole.{few_items}
+use Rattle.dwarf_inline.proofs.details.read_lists.Goals as goal
+
+pub loop-item-init : goal.loop-item-init
+loop-item-init c = rw (c.new.ensures.items, c.new-2.ensures.items, c.new-3.ensures.items) (record { placed = none_placed c.args.sources.info.now c.args.sources.lines.now c.args.sources.image.now; ranges = refl })
+
+pub add_item-requires-clause-entry : goal.add_item-requires-clause-entry
+add_item-requires-clause-entry c = kept_within c.args.sources.info.now c.args.items.now c.loop-item.item-index _ c.requires.items c.loop-item-test.true
+
+pub add_item-requires-clause-few : goal.add_item-requires-clause-few
+add_item-requires-clause-few c =
+    let few = c.loop-item.invariant.placed.few in
+    let most = c.requires.few in
+    omega (arith, c.loop-item-test.true, kept_long c.args.sources.info.now c.args.items.now c.requires.items, few_items c.args.sources.info.now)
+
+pub loop-item-preserved : goal.loop-item-preserved
+loop-item-preserved c =
+    let info = c.args.sources.info.now in
+    let image = c.args.sources.image.now in
+    let within : c.loop-item.item-index < length (item_entries info) = omega (arith, c.loop-item-test.true, kept_long info c.args.items.now c.requires.items) in
+    record {
+      placed = one_placed info c.args.sources.lines.now image c.loop-item.item-index _ _ _ _ _ _ within c.loop-item.invariant.placed
+          (ranges_so_far info image (item_entries info) c.loop-item.item-index nothing c.loop-item.lists.ranges.items refl within c.loop-item.invariant.ranges)
+          (kept_at info c.args.items.now c.loop-item.item-index _ c.requires.items c.loop-item-test.true)
+          c.in_ok-add_item.ensures.placed;
+      ranges = some_more (λ (e : Indexed). counted_ranges info image e.0) (item_entries info) c.loop-item.item-index nothing _ c.loop-item.lists.ranges.items _ within
+          (ap (counted_ranges info image) (kept_index info c.args.items.now c.loop-item.item-index _ c.requires.items c.loop-item-test.true))
+          c.loop-item.invariant.ranges c.in_ok-add_item.ensures.ranges;
+    }
+
+pub returns-clause-places : goal.returns-clause-places
+returns-clause-places c =
+    let same : c.loop-item.item-index ≡ length c.args.items.now = (let a = c.loop-item-test.false in let b = c.loop-item.auto in omega arith) in
+    rw same at c.loop-item.invariant.placed
+
+pub returns-clause-ranges : goal.returns-clause-ranges
+returns-clause-ranges c =
+    let info = c.args.sources.info.now in
+    let image = c.args.sources.image.now in
+    c.loop-item.invariant.ranges
+    ∙ ap (flat_map (λ (e : Indexed). counted_ranges info image e.0)) (take_all c.loop-item.item-index (item_entries info)
+    (omega (arith, c.loop-item-test.false, kept_long info c.args.items.now c.requires.items)))

@@ -1,0 +1,207 @@
+//! The ranges of the items, and what they add to an item.
+ghost use Rattle.std.specs.Prelude.{◌≡◌, ◌+◌, ◌<◌, ◌≤◌, ◌^◌, ◌++◌, ℕ, Some, true, length, map, slice_get, IfOk, OnOk};
+ghost use Rattle.std.specs.List.{flat_map};
+ghost use Rattle.dwarf_info.specs.Subroutines.{item_entries, subroutine_entry};
+ghost use Rattle.dwarf_inline.specs.Structure.{counted_ranges, unit_line_table, call_row, call_at};
+ghost use Rattle.dwarf_inline.specs.private.Details.{ArePlaced, IsPlaced, detail_of};
+
+use dwarf_info::{Info, SubroutineEntry};
+use dwarf_line::LineTable;
+use elf_image::Image;
+use prof_bytes::Memory;
+use scope_types::LineId;
+use std::alloc::Global;
+
+/// What a structure is read from.
+#[derive(Clone, Copy)]
+pub(crate) struct Sources<'s, 'a, 'l, 'i> {
+    pub(crate) info: &'s Info<'a>,
+    pub(crate) lines: &'s LineTable<'l>,
+    pub(crate) image: &'s Image<'i>,
+}
+
+/// What the ranges of an item add to it.
+#[derive(Clone, Copy, Debug)]
+pub(crate) struct Detail {
+    /// Where it is called, if it is an inlined subroutine with a range that counts.
+    pub(crate) call: Option<LineId>,
+    /// The index of its first range among those of all items.
+    pub(crate) first_range: u64,
+    /// The number of its ranges that count.
+    pub(crate) range_count: u32,
+}
+
+/// The ranges of the items that count, and the details of the items.
+#[derive(Drop)]
+pub(crate) struct RangeLists {
+    /// The index of each item's detail.
+    pub(crate) places: Vec<u32>,
+    /// Items that follow one another and have no range share one.
+    pub(crate) details: Vec<Detail>,
+    pub(crate) ranges: Vec<(u32, u32)>,
+}
+
+/// Appends the ranges of an entry that count; the answer is their number.
+fn add_ranges(
+    alloc: Global,
+    info: &Info<'_>,
+    image: &Image<'_>,
+    index: u32,
+    ranges: &mut Vec<(u32, u32)>,
+) -> Result<u32, Memory>
+    requires { index < length info.now.entries }
+    ensures ranges { IfOk result (λ _. ranges.new.items
+        ≡ ranges.old.items ++ counted_ranges info.now image.now index) }
+    ensures count { IfOk result (λ n. n ≡ length (counted_ranges info.now image.now index)) }
+{
+    let all = info.ranges(alloc, index)?;
+    let pairs = all.pairs();
+    let mut count = 0u32;
+    for range in pairs {
+        if image.counts(range.0, range.1) {
+            ranges.push(*range)?;
+            count += 1;
+        }
+    }
+    Ok(count)
+}
+
+/// The line table of an entry's unit, where it is of version 5.
+fn line_table(sources: Sources<'_, '_, '_, '_>, index: u32) -> Option<u32>
+    ensures { result ≡ unit_line_table sources.entry.info.now sources.entry.lines.now index }
+{
+    let table = sources.info.line_table(index)?;
+    if sources.lines.has_table(table) {
+        return Some(table);
+    }
+    None
+}
+
+fn call_row(table: Option<u32>, call: (Option<u32>, Option<u32>)) -> Option<LineId>
+    ensures { result ≡ call_row table call }
+{
+    let (file, line) = call;
+    match (table, line) {
+        (Some(table), Some(line)) => Some(LineId::Row {
+            table,
+            file: file.unwrap_or(0),
+            line,
+        }),
+        _ => None,
+    }
+}
+
+/// Where an inlined subroutine with these ranges is called.
+fn call_at(sources: Sources<'_, '_, '_, '_>, index: u32, ranges: &[(u32, u32)]) -> Option<LineId>
+    requires { index < length sources.info.now.entries }
+    ensures { result ≡ call_at sources.entry.info.now sources.entry.lines.now index ranges.now }
+{
+    match ranges {
+        [] => None,
+        [first, ..] => match call_row(line_table(sources, index), sources.info.call(index)) {
+            Some(row) => Some(row),
+            None => Some(LineId::Address(first.0)),
+        },
+    }
+}
+
+/// Whether an item without a range has the same detail as one before it.
+fn is_shared(last: Detail, detail: Detail) -> bool
+    ensures { result ≡ true → last ≡ detail }
+{
+    match (last.call, detail.call) {
+        (None, None) => {
+            last.first_range == detail.first_range && last.range_count == detail.range_count
+        }
+        _ => false,
+    }
+}
+
+/// The index of a detail, which is appended unless the last one is the same.
+fn add_detail(details: &mut Vec<Detail>, detail: Detail) -> Result<u32, Memory>
+    requires { length details.old.items < 2 ^ 31 }
+    ensures there { IfOk result (λ place. slice_get details.new.items place ≡ Some detail) }
+    ensures keeps { IfOk result (λ _. (i : ℕ) → i < length details.old.items
+        → slice_get details.new.items i ≡ slice_get details.old.items i) }
+    ensures few { IfOk result (λ _. length details.new.items ≤ length details.old.items + 1) }
+{
+    let count = details.len();
+    if count > 0 && is_shared(details[count - 1], detail) {
+        return Ok((count - 1) as u32);
+    }
+    details.push(detail)?;
+    Ok(count as u32)
+}
+
+/// Appends the ranges of an item that count; the answer is what they add to it.
+fn read_detail(
+    alloc: Global,
+    sources: Sources<'_, '_, '_, '_>,
+    item: &SubroutineEntry,
+    ranges: &mut Vec<(u32, u32)>,
+) -> Result<Detail, Memory>
+    requires { item.now.index < length sources.info.now.entries }
+    ensures ranges { IfOk result (λ _. ranges.new.items
+        ≡ ranges.old.items ++ counted_ranges sources.entry.info.now sources.entry.image.now item.now.index) }
+    ensures detail { IfOk result (λ detail. detail ≡ detail_of sources.entry.info.now sources.entry.lines.now
+        sources.entry.image.now (length ranges.old.items) item.now) }
+{
+    let first = ranges.len();
+    let range_count = add_ranges(alloc, sources.info, sources.image, item.index, ranges)?;
+    let call = if item.inlined {
+        call_at(sources, item.index, &ranges[first..])
+    } else {
+        None
+    };
+    Ok(Detail {
+        call,
+        first_range: first as u64,
+        range_count,
+    })
+}
+
+/// Appends the ranges of an item that count, and its detail.
+fn add_item(
+    lists: &mut RangeLists,
+    alloc: Global,
+    sources: Sources<'_, '_, '_, '_>,
+    item: &SubroutineEntry,
+) -> Result<(), Memory>
+    requires entry { item.now.index < length sources.info.now.entries }
+    requires few { length lists.old.details.items < 2 ^ 31 }
+    ensures ranges { OnOk result (lists.new.ranges.items ≡ lists.old.ranges.items
+        ++ counted_ranges sources.entry.info.now sources.entry.image.now item.now.index) }
+    ensures placed { OnOk result (IsPlaced lists.old.places.items lists.old.details.items
+        (detail_of sources.entry.info.now sources.entry.lines.now sources.entry.image.now
+        (length lists.old.ranges.items) item.now) lists.new.places.items lists.new.details.items) }
+{
+    let detail = read_detail(alloc, sources, item, &mut lists.ranges)?;
+    let place = add_detail(&mut lists.details, detail)?;
+    lists.places.push(place)?;
+    Ok(())
+}
+
+/// The ranges of all items that count, and the details of the items.
+pub(crate) fn read_lists(
+    alloc: Global,
+    sources: Sources<'_, '_, '_, '_>,
+    items: &[SubroutineEntry],
+) -> Result<RangeLists, Memory>
+    requires few { length sources.info.now.entries < 2 ^ 31 }
+    requires items { items.now ≡ map subroutine_entry (item_entries sources.info.now) }
+    ensures places { IfOk result (λ lists. ArePlaced sources.entry.info.now sources.entry.lines.now
+        sources.entry.image.now (length items.now) lists.places.items lists.details.items) }
+    ensures ranges { IfOk result (λ lists. lists.ranges.items
+        ≡ flat_map (λ e. counted_ranges sources.entry.info.now sources.entry.image.now e.0)
+        (item_entries sources.entry.info.now)) }
+{
+    let mut lists = RangeLists {
+        places: Vec::new(alloc),
+        details: Vec::new(alloc),
+        ranges: Vec::new(alloc),
+    };
+    for item in items {
+        add_item(&mut lists, alloc, sources, item)?;
+    }
+    Ok(lists)
+}

@@ -1,0 +1,106 @@
+//! The identities of items, and their names.
+ghost use Rattle.std.specs.Prelude.{◌≡◌, ◌==◌, ◌<◌, ◌++◌, ◌∷◌, [], length, map, find, option_map, option_to_list, OnOk};
+ghost use Rattle.std.specs.List.Sorted.{IsNonDecreasingBy, IsPermutation};
+ghost use Rattle.dwarf_inline.specs.Links.{entry_offset};
+ghost use Rattle.dwarf_inline.specs.private.Names.{named, pair_of};
+
+use dwarf_info::Info;
+use prof_bytes::Memory;
+use scope_types::cut_name;
+use std::alloc::Global;
+
+/// The name of a procedure.
+#[derive(Clone, Copy, Debug)]
+pub(crate) struct ProcName<'a> {
+    /// The offset of the procedure's identity in `.debug_info`.
+    pub(crate) identity: u32,
+    pub(crate) name: &'a [u8],
+}
+
+/// The identities of items.
+#[derive(Drop)]
+pub(crate) struct Identities<'a> {
+    /// The offset of the identity of each item.
+    pub(crate) offsets: Vec<u32>,
+    /// The names of those identities that have one.
+    pub(crate) names: Vec<ProcName<'a>>,
+}
+
+impl<'a> Identities<'a> {
+    /// None yet.
+    pub(crate) fn new(alloc: Global) -> Identities<'a>
+        ensures offsets { result.offsets.items ≡ [] }
+        ensures names { result.names.items ≡ [] }
+    {
+        Identities {
+            offsets: Vec::new(alloc),
+            names: Vec::new(alloc),
+        }
+    }
+}
+
+/// The offset of the entry with an index.
+fn offset_of(info: &Info<'_>, index: u32) -> u32
+    ensures { result ≡ entry_offset info.now index }
+{
+    match info.entry_offset(index) {
+        Some(offset) => offset,
+        None => 0,
+    }
+}
+
+/// Appends the name of an entry, if it has one.
+fn add_name<'a>(
+    names: &mut Vec<ProcName<'a>>,
+    info: &Info<'a>,
+    index: u32,
+    identity: u32,
+) -> Result<(), Memory>
+    requires { index < length info.now.entries }
+    ensures { OnOk result (map pair_of names.new.items
+        ≡ map pair_of names.old.items ++ option_to_list (named info.now index identity)) }
+{
+    if let Some(name) = info.name(index) {
+        let name = cut_name(name);
+        names.push(ProcName { identity, name })?;
+    }
+    Ok(())
+}
+
+/// Appends an identity, the entry with this index, with its name.
+pub(crate) fn add_identity<'a>(
+    identities: &mut Identities<'a>,
+    info: &Info<'a>,
+    index: u32,
+) -> Result<(), Memory>
+    requires { index < length info.now.entries }
+    ensures offsets { OnOk result (identities.new.offsets.items
+        ≡ identities.old.offsets.items ++ entry_offset info.now index ∷ []) }
+    ensures names { OnOk result (map pair_of identities.new.names.items ≡ map pair_of identities.old.names.items
+        ++ option_to_list (named info.now index (entry_offset info.now index))) }
+{
+    let offset = offset_of(info, index);
+    identities.offsets.push(offset)?;
+    add_name(&mut identities.names, info, index, offset)
+}
+
+/// Sorts names by their identities.
+pub(crate) fn sort_names(names: &mut Vec<ProcName<'_>>)
+    ensures same { IsPermutation names.old.items names.new.items }
+    ensures sorted { IsNonDecreasingBy (λ n. n.identity) names.new.items }
+{
+    names.sort_unstable_by_key(|name| name.identity);
+}
+
+/// The name of an identity, by a binary search.
+pub(crate) fn name_in<'a>(names: &[ProcName<'a>], identity: u32) -> Option<&'a [u8]>
+    requires { IsNonDecreasingBy (λ n. n.identity) names.now }
+    ensures { option_map (λ name. name.now) result
+        ≡ option_map (λ p. p.1) (find (λ p. p.0 == identity) (map pair_of names.now)) }
+{
+    let index = names.partition_point(|name| name.identity < identity);
+    match names.get(index) {
+        Some(name) if name.identity == identity => Some(name.name),
+        _ => None,
+    }
+}

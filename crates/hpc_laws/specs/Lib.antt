@@ -1,0 +1,5 @@
+pub mod Apart
+pub mod Order
+pub mod LiveRuns
+pub mod Databases
+pub mod TracesOfRuns
