@@ -88,7 +88,7 @@ ran-zero : (count : ℕ) (s t : State) → count < 1 → Ran count s t → t ≡
 unfolding after_steps
 ran-zero count s t none ran = ran.state ∙ ap (λ (j : ℕ). after_steps j s) (let e : count ≡ 0 = omega arith in e)
 
-ran-one : (count : ℕ) (s t : State) → count ≡ 1 → Ran count s t → (t, stepped.Retired) ≡ step_of s
+pub ran-one : (count : ℕ) (s t : State) → count ≡ 1 → Ran count s t → (t, stepped.Retired) ≡ step_of s
 unfolding after_steps
 ran-one count s t one ran =
     let state : t ≡ (step_of s).0 = ran.state ∙ ap (λ (j : ℕ). after_steps j s) one in

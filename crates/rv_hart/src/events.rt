@@ -38,6 +38,7 @@ fn inst_event(hart: &Hart, inst: &Inst) -> Option<Event>
 
 /// The event other than retired that the hart's next instruction has if it retires: whether it is a load, a store, or a
 /// branch that will be taken.
+#[inline(always)]
 pub fn next_event(hart: &Hart, space: &Space) -> Option<Event>
     ensures { result ≡ extra_event (state_of hart.now space.now) }
 {

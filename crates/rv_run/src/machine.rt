@@ -122,6 +122,7 @@ impl<'a> Machine<'a> {
     }
 
     /// The next instruction, with its event; `None` exactly where the run has ended. Takes no memory.
+    #[inline(always)]
     pub fn due(&self) -> Option<Due>
         ensures due { result ≡ first_due (to_come self.now).instants }
         ensures hart { IfSome result (λ due. due.hart < length self.now.state.harts) }

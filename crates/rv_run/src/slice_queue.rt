@@ -83,6 +83,8 @@ impl SliceQueue {
     }
 
     /// Takes the first slice off.
+    #[cold]
+    #[inline(never)]
     fn drop_first(&mut self)
         ensures { self.new ≡ rest_of self.old }
     {

@@ -13,7 +13,7 @@ ghost use Rattle.sample_clock.specs.private.Advance.{second_sample, with_one_met
 ghost use Rattle.sample_clock.specs.private.Countdown.{IsUntil};
 
 use crate::coming::{Coming, copied, path_before};
-use crate::countdown::{full_of, left_after, next_after, place_due, retired_period};
+use crate::countdown::{count_extra, full_of, next_after, place_due, retired_period};
 use prof_bytes::{Fail, Memory};
 use rv_hart::EventsLeft;
 use rv_run::Machine;
@@ -147,8 +147,7 @@ impl<'a> Samples<'a> {
         }
         let hart = coming.hart as usize;
         self.next[hart] = next_after(self.retired, coming.ordinal, self.next[hart]);
-        let left = self.left[hart];
-        self.left[hart] = left_after(&self.full, coming.extra, &left);
+        count_extra(&self.full, coming.extra, &mut self.left[hart]);
         Ok(true)
     }
 
@@ -268,8 +267,8 @@ impl<'a> Samples<'a> {
             return Ok(Advance::End);
         };
         let until = self.until_retired(due.hart, due.ordinal);
-        let mut left = self.left[due.hart as usize];
-        let place = place_due(self.events.as_slice(), left, due.extra);
+        let hart = due.hart as usize;
+        let place = place_due(self.events.as_slice(), self.left[hart], due.extra);
         if until == 0 || place.is_some() {
             return Ok(Advance::Due(Coming {
                 hart: due.hart,
@@ -280,8 +279,9 @@ impl<'a> Samples<'a> {
                 place,
             }));
         }
+        let mut left = self.left[hart];
         let passed = self.machine.pass_counting(&due, &mut left, until);
-        self.left[due.hart as usize] = left;
+        self.left[hart] = left;
         passed?;
         Ok(Advance::Unsampled)
     }

@@ -63,19 +63,17 @@ fn one_less(full: u32, left: u32) -> u32
     left.checked_sub(1).unwrap_or(full)
 }
 
-/// What is left after one more instruction with this event beside retired.
+/// Counts one more instruction with this event beside retired. What is left of the other events is not touched.
 #[inline(always)]
-pub(crate) fn left_after(full: &EventsLeft, extra: Option<Event>, left: &EventsLeft) -> EventsLeft
-    ensures { result ≡ left_after full.now extra left.now }
+pub(crate) fn count_extra(full: &EventsLeft, extra: Option<Event>, left: &mut EventsLeft)
+    ensures { left.new ≡ left_after full.now extra left.old }
 {
-    let mut after = *left;
     match extra {
-        Some(Event::Loads) => after.loads = one_less(full.loads, left.loads),
-        Some(Event::Stores) => after.stores = one_less(full.stores, left.stores),
-        Some(Event::Taken) => after.taken = one_less(full.taken, left.taken),
+        Some(Event::Loads) => left.loads = one_less(full.loads, left.loads),
+        Some(Event::Stores) => left.stores = one_less(full.stores, left.stores),
+        Some(Event::Taken) => left.taken = one_less(full.taken, left.taken),
         Some(Event::Retired) | None => {}
     }
-    after
 }
 
 /// Whether none of an event is left. Retired is not counted so.
@@ -104,6 +102,21 @@ fn place_from(event: Event, from: u32, events: &[EventPeriod]) -> Option<u32>
     }
 }
 
+/// The place of an event in a list. The first three places take no call.
+#[inline(always)]
+#[tactic(auto, unfolding(crate::specs::private::Countdown::place_from))]
+fn place_among(event: Event, events: &[EventPeriod]) -> Option<u32>
+    requires { length events.now < 2 ^ 32 }
+    ensures { result ≡ place_from event 0 events.now }
+{
+    match events {
+        [first, ..] if first.event == event => Some(0),
+        [_, second, ..] if second.event == event => Some(1),
+        [_, _, third, ..] if third.event == event => Some(2),
+        _ => place_from(event, 0, events),
+    }
+}
+
 /// The place of the event that an instruction has beside retired, where none of it is left: it is sampled.
 #[inline(always)]
 pub(crate) fn place_due(
@@ -115,7 +128,7 @@ pub(crate) fn place_due(
     ensures { result ≡ place_of (used_up left extra) events.now }
 {
     match extra {
-        Some(event) if is_used_up(&left, event) => place_from(event, 0, events),
+        Some(event) if is_used_up(&left, event) => place_among(event, events),
         _ => None,
     }
 }
