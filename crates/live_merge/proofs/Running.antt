@@ -190,9 +190,6 @@ module _ (path_of : Paths) (call_path : CallPath) (columns most : ℕ) (start no
     pub merged_counted : counted_by new.trees.items ≤ length samples
     merged_counted = (let size = length-append is.before is.own in let a = is.counted in let b = is.own_count in let c = merges.counted in omega (arith, size, a, b, c))
 
-    pub merged_few : counted_by new.trees.items ≤ most_samples
-    merged_few = (let a = merged_counted in let met = is.met in let few = is.few in omega (arith, a, met, few))
-
   -- ---- the end of the run
   module _ (ended : last.is_last ≡ true) where
     all_are : coming path_of start ≡ raws start samples
@@ -327,17 +324,22 @@ module _ (path_of : Paths) (call_path : CallPath) (columns most : ℕ) (start no
       omega (arith, met, few, size, was, count_is)
 
   -- the limits of the whole run
-  pub give_whole : (new : Trees) (r : Result CountedTree (Fail LiveFault)) → AreMerged call_path columns so_far new
-      → ((done : List ColumnRaw) → all ≡ distinct (length all) done → All (λ s. s.column < length all) done → AreMerged call_path (length all) done new → GivesWhole call_path (length all) done r) → GivesWhole call_path columns so_far r
-  give_whole new r merged gives =
+  pub give_whole : (r : Result CountedTree (Fail LiveFault))
+      → ((done own : List ColumnRaw) → all ≡ distinct (length all) (done ++ own) → last.ccts ≡ distinct (length all) own → All (λ s. s.column < length all) (done ++ own) → AreMerged call_path (length all) done trees → GivesWhole call_path (length all) (done ++ own) r)
+      → GivesWhole call_path columns so_far r
+  give_whole r gives =
       let long : length all ≡ columns = all_long path_of call_path columns most start now all trees last count is many in
+      let parts : so_far ≡ raws start is.before ++ raws start is.own = raws_more start is.before is.own in
       subst (λ (n : ℕ). GivesWhole call_path n so_far r) long
-      (gives so_far (asked path_of call_path columns most start now all trees last count is many)
-      (subst (λ (n : ℕ). All (IsOwn n) so_far) (sym long) is.given_own)
-      (subst (λ (n : ℕ). AreMerged call_path n so_far new) (sym long) merged))
+      (subst (λ (l : List ColumnRaw). GivesWhole call_path (length all) l r) (sym parts)
+      (gives (raws start is.before) (raws start is.own)
+      (asked path_of call_path columns most start now all trees last count is many ∙ ap (distinct (length all)) parts)
+      (is.own_are ∙ ap (λ (n : ℕ). distinct n (raws start is.own)) (sym long))
+      (subst (All (IsOwn (length all))) parts (subst (λ (n : ℕ). All (IsOwn n) so_far) (sym long) is.given_own))
+      (subst (λ (n : ℕ). AreMerged call_path n (raws start is.before) trees) (sym long) is.merged)))
 
-  pub small_all : (new : Trees) → AreSmall columns new.trees.items → AreSmall (length all) new.trees.items
-  small_all new small = subst (λ (n : ℕ). AreSmall n new.trees.items) (sym (all_long path_of call_path columns most start now all trees last count is many)) small
+  pub as_long : length last.ccts ≡ length all
+  as_long = last_long path_of call_path columns most start now all trees last count is many ∙ sym (all_long path_of call_path columns most start now all trees last count is many)
 
   -- what the next epoch gives after those so far
   pub next_gives : (r : Result Epoch (Fail LiveFault)) (all' : Tables) (new : Sampling) → ((done : List ColumnRaw) → all ≡ distinct (length all) done → length done ≡ now.met → GivesEpoch path_of (length all) most done r all' now new)

@@ -1,10 +1,11 @@
 -- The walks' end: the nodes in order are those of either tree, and the counts those of both.
 use Rattle.std.proofs.Common.{◌≡◌, ℕ, ◌+◌, ◌-◌, ◌<◌, ◌≤◌, ◌≢◌, ◌==◌, ◌&&◌, inl, inr, Bool, true, false, cond, List, [], ◌∷◌, ◌++◌, length, get_or, map, filter, sum_by, All, AllPairs, Contains, Less, refl, sym, ap, ap₂, subst, ◌∙◌, arith, true≢false, length-append}
-use Rattle.std.specs.List.Sorted.{IsStrictlySortedBy}
+use Rattle.std.specs.List.Sorted.{IsPermutation, IsStrictlySortedBy}
 use Rattle.std.proofs.Math.ListN.{get_or-append}
 use Rattle.std.proofs.lemmas.Bool.{cases_eq, cases_lt, eq-eqb, ne_eqb}
 use Rattle.std.proofs.lemmas.List.{get_or_default, get_or-append_right}
 use Rattle.std.proofs.lemmas.List.Elements.{All-append, All-head, All-map, All-tail, filter-append}
+use Rattle.std.proofs.lemmas.List.Sorted.{sum_by-IsPermutation}
 use Rattle.std.proofs.lemmas.List.Sums.{sum_by-append, sum_by-cons}
 use Rattle.std.proofs.lemmas.Map.Keys.{sorted_from_all_adjacent}
 use Rattle.scope_types.specs.Order.{path_order}
@@ -225,6 +226,9 @@ sum_from a b made tree is of = subst (IsSum a b) (sym is) of
 pub few_both : (left right : List ℕ) (xs ys : List NodeCount) (n : ℕ) → counts_in xs + counts_in ys ≤ n → counts_in (both_counts left xs right ys) ≤ n
 few_both left right xs ys n few =
     (let both = sum_by-append amount (map (count_with left) xs) (map (count_with right) ys) in let l = total_with left xs in let r = total_with right ys in omega arith)
+
+pub few_moved : (old new : List NodeCount) (n : ℕ) → IsPermutation old new → counts_in old ≤ n → counts_in new ≤ n
+few_moved old new n moved few = (let same = sum_by-IsPermutation amount old new moved in omega arith)
 
 -- the same by what was read of the trees
 pub tree_ok : (a b : CountedTree) (a_nodes b_nodes : List Node) (a_counts b_counts : List NodeCount) (left right left_read right_read : List ℕ) (order : List Node) (sums : List NodeCount) (columns : ℕ)

@@ -9,8 +9,7 @@ use std::alloc::Global;
 use tree_types::Tree;
 
 /// The sum of two trees of as many columns: the nodes of either, each once and in preorder, siblings by their scopes;
-/// at each node and column as many paths end as in both. The time is that of a walk over both, and of a sort of their
-/// counts.
+/// at each node and column as many paths end as in both. The time is linear in the nodes and counts of both.
 pub fn add_trees(alloc: Global, a: &Tree, b: &Tree) -> Result<Tree, Memory>
     requires { CanBeAdded a.now b.now }
     ensures { IfOk result (IsSum a.now b.now) }

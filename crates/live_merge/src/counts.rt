@@ -1,5 +1,6 @@
 //! The counts of two trees, by the numbers that their nodes have in one order.
 ghost use Rattle.std.specs.Prelude.{◌≡◌, ◌+◌, ◌<◌, ◌≤◌, ◌++◌, length, map, All, IfOk, OnOk};
+ghost use Rattle.std.specs.List.Sorted.{IsPermutation};
 ghost use Rattle.scope_types.specs.Limits.{most_samples};
 ghost use Rattle.tree_types.specs.Tree.{counts_in};
 ghost use Rattle.tree_join.specs.private.Sums.{AreSums};
@@ -27,6 +28,15 @@ fn put_counts(all: &mut Vec<NodeCount>, counts: &[NodeCount], numbers: &[u32]) -
     Ok(())
 }
 
+/// Puts counts in order by node, then column. The time is linear where they are in order but for the place where the
+/// second tree's begin, since a stable sort merges runs.
+fn merge_runs(counts: &mut Vec<NodeCount>) -> Result<(), Memory>
+    ensures { IsPermutation counts.old.items counts.new.items }
+{
+    counts.sort_by_key(|c| (c.node, c.column))?;
+    Ok(())
+}
+
 /// The counts of two trees by their nodes' numbers, those of one node and column added up, in order.
 pub fn added_counts(
     alloc: Global,
@@ -43,5 +53,6 @@ pub fn added_counts(
     let mut all = Vec::new(alloc);
     put_counts(&mut all, a, left)?;
     put_counts(&mut all, b, right)?;
+    merge_runs(&mut all)?;
     added_up(alloc, all)
 }

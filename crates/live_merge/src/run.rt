@@ -1,11 +1,12 @@
 //! A run that is merged while it goes on.
-ghost use Rattle.std.specs.Prelude.{◌≡◌, ◌+◌, ◌*◌, ◌^◌, ◌<◌, ◌≤◌, All, IfOk, List, OnOk, length};
+ghost use Rattle.std.specs.Prelude.{◌≡◌, ◌+◌, ◌*◌, ◌^◌, ◌<◌, ◌≤◌, ◌++◌, All, IfOk, List, OnOk, length};
 ghost use Rattle.std.specs.Thread.{IsSync};
+ghost use Rattle.prof_bytes.specs.Outcome.{Gives};
 ghost use Rattle.scope_types.specs.Distinct.{ColumnRaw, distinct, samples_in};
 ghost use Rattle.scope_types.specs.Limits.{least_epoch, most_epoch, most_samples};
 ghost use Rattle.scope_types.specs.Raw.{Raw};
-ghost use Rattle.live_merge.specs.Live.{AnswersLive, StandsAfter, coming};
-ghost use Rattle.live_merge.specs.private.Epochs.{AreMerged, AreSmall, GivesEpoch, GivesWhole, HasTree, Merges};
+ghost use Rattle.live_merge.specs.Live.{AnswersLive, StandsAfter, coming, few_scopes_of};
+ghost use Rattle.live_merge.specs.private.Epochs.{AddsAll, AreMerged, AreSmall, GivesEpoch, GivesWhole, Merges};
 ghost use Rattle.live_merge.specs.private.Epochs.{counted_by};
 
 use crate::epoch::{Epoch, next_epoch};
@@ -76,27 +77,71 @@ fn run_and_merge<R: Threads + Sync, U: Unwind + Sync, E: Expand + Sync, M: Merge
     Ok(next)
 }
 
-/// The sum of the trees of all epochs, unless the whole run has too many scopes.
-fn whole<E: Expand>(
-    alloc: Global,
-    all: &Ccts,
-    trees: Trees,
-    expand: &E,
-) -> Result<Tree, Fail<LiveFault>>
-    requires tree { HasTree trees }
-    requires small { AreSmall (length all.now) trees.trees.items }
-    requires few { counted_by trees.trees.items ≤ most_samples }
-    ensures columns { IfOk result (λ tree. tree.columns ≡ length all.now) }
-    ensures whole { (done : List ColumnRaw) → all.now ≡ distinct (length all.now) done
-        → All (λ s. s.column < length all.now) done → AreMerged (E.call_path expand.now) (length all.now) done trees
-        → GivesWhole (E.call_path expand.now) (length all.now) done result }
+/// Whether the whole run has few enough scopes. `TooManyScopes` comes exactly where it has too many.
+fn check_scopes<E: Expand>(alloc: Global, all: &Ccts, expand: &E) -> Result<(), Fail<LiveFault>>
+    ensures { (done : List ColumnRaw) → all.now ≡ distinct (length all.now) done
+        → Gives (λ _. done) result (few_scopes_of (E.call_path expand.now) (length all.now) done) }
 {
     match Plan::of(alloc, all, expand) {
-        Ok(_) => {}
-        Err(Fail::Fault(_)) => return Err(Fail::Fault(LiveFault::TooManyScopes)),
-        Err(Fail::Memory(memory)) => return Err(Fail::Memory(memory)),
+        Ok(_) => Ok(()),
+        Err(Fail::Fault(_)) => Err(Fail::Fault(LiveFault::TooManyScopes)),
+        Err(Fail::Memory(memory)) => Err(Fail::Memory(memory)),
     }
-    match trees.sum(alloc, all.columns())? {
+}
+
+/// Merges the samples of the last epoch, and adds the trees of all epochs up; none where they have too many scopes.
+fn merge_last<R: Threads + Sync, E: Expand + Sync, M: Merger>(
+    rt: &R,
+    alloc: Global,
+    last: &Ccts,
+    expand: &E,
+    merger: &M,
+    trees: &mut Trees,
+) -> Result<Option<Tree>, Memory>
+    requires some { (raw : Raw) → 0 < length (E.call_path expand.now raw) }
+    requires small { AreSmall (length last.now) trees.old.trees.items }
+    requires few { counted_by trees.old.trees.items + samples_in last.now ≤ most_samples }
+    ensures { IfOk result (AddsAll (E.call_path expand.now) last.now trees.old) }
+{
+    trees.merge(rt, alloc, last, expand, merger)?;
+    trees.sum(alloc, last.columns())
+}
+
+/// The sum of the trees of all epochs, of which the last is merged, unless the whole run has too many scopes. Both are
+/// found at once.
+fn whole<R: Threads + Sync, E: Expand + Sync, M: Merger>(
+    rt: &R,
+    alloc: Global,
+    all: &Ccts,
+    last: &Ccts,
+    expand: &E,
+    merger: &M,
+    trees: &mut Trees,
+) -> Result<Tree, Fail<LiveFault>>
+    requires some { (raw : Raw) → 0 < length (E.call_path expand.now raw) }
+    requires small { AreSmall (length last.now) trees.old.trees.items }
+    requires few { counted_by trees.old.trees.items + samples_in last.now ≤ most_samples }
+    requires columns { length last.now ≡ length all.now }
+    ensures columns { IfOk result (λ tree. tree.columns ≡ length all.now) }
+    ensures whole { (done own : List ColumnRaw) → all.now ≡ distinct (length all.now) (done ++ own)
+        → last.now ≡ distinct (length all.now) own → All (λ s. s.column < length all.now) (done ++ own)
+        → AreMerged (E.call_path expand.now) (length all.now) done trees.old
+        → GivesWhole (E.call_path expand.now) (length all.now) (done ++ own) result }
+{
+    let mut check = || -> Result<(), Fail<LiveFault>>
+        ensures { (done : List ColumnRaw) → all.entry.now ≡ distinct (length all.entry.now) done
+            → Gives (λ _. done) result
+            (few_scopes_of (E.call_path expand.entry.now) (length all.entry.now) done) }
+    { check_scopes(alloc, all, expand) };
+    let mut add = || -> Result<Option<Tree>, Memory>
+        requires { IsSync R.row × ((raw : Raw) → 0 < length (E.call_path expand.now raw))
+            × AreSmall (length last.now) trees.now.trees.items
+            × (counted_by trees.now.trees.items + samples_in last.now ≤ most_samples) }
+        ensures { IfOk result (AddsAll (E.call_path expand.entry.now) last.entry.now trees.entry.now) }
+    { merge_last(rt, alloc, last, expand, merger, trees) };
+    let (few, sum) = join_mut(rt, &mut check, &mut add);
+    few?;
+    match sum? {
         Some(tree) => Ok(tree),
         // epochs have no more scopes than the whole run
         None => Err(Fail::Fault(LiveFault::TooManyScopes)),
@@ -141,8 +186,7 @@ pub fn run_live<R: Threads + Sync, U: Unwind + Sync, E: Expand + Sync, M: Merger
         count += next.samples;
         last = next;
     }
-    trees.merge(rt, alloc, &last.ccts, expand, merger)?;
-    let tree = whole(alloc, &all, trees, expand)?;
+    let tree = whole(rt, alloc, &all, &last.ccts, expand, merger, &mut trees)?;
     Ok(Live {
         tree,
         ccts: all,

@@ -134,26 +134,25 @@ impl Trees {
         }
     }
 
-    /// The sum of all trees, from the last to the first; none where the epochs have too many scopes.
-    pub fn sum(self, alloc: Global, columns: u32) -> Result<Option<Tree>, Memory>
-        requires some { HasTree self }
-        requires small { AreSmall columns self.trees.items }
-        requires few { counted_by self.trees.items ≤ most_samples }
+    /// The sum of all trees, from the last to the first; none where the epochs have too many scopes. The trees are taken.
+    pub fn sum(&mut self, alloc: Global, columns: u32) -> Result<Option<Tree>, Memory>
+        requires some { HasTree self.old }
+        requires small { AreSmall columns self.old.trees.items }
+        requires few { counted_by self.old.trees.items ≤ most_samples }
         ensures columns { IfOk result (λ sum. IfSome sum (λ tree. tree.columns ≡ columns)) }
         ensures sum { IfOk result (λ sum. (call_path : Raw → List Scope) (done : List ColumnRaw)
-            → All (λ s. s.column < columns) done → AreMerged call_path columns done self
+            → All (λ s. s.column < columns) done → AreMerged call_path columns done self.old
             → GivesSum call_path columns done sum) }
     {
         plans_hold_counted_paths();
         samples_are_counted();
-        let Trees { mut trees, is_over } = self;
-        if is_over {
+        if self.is_over {
             return Ok(None);
         }
-        let Some(Grown { mut tree, .. }) = trees.pop() else {
+        let Some(Grown { mut tree, .. }) = self.trees.pop() else {
             return Ok(None);
         };
-        while let Some(Grown { tree: first, .. }) = trees.pop() {
+        while let Some(Grown { tree: first, .. }) = self.trees.pop() {
             tree = add_trees(alloc, &first, &tree)?;
             if tree.nodes().len() > MOST_SCOPES_IN_ALL as usize {
                 return Ok(None);

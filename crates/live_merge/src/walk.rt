@@ -4,17 +4,21 @@ ghost use Rattle.tree_types.specs.Nodes.{no_parent};
 ghost use Rattle.tree_types.specs.Tree.{IsPreorder};
 ghost use Rattle.tree_join.specs.private.Walk.{node_before, parent_number_at};
 ghost use Rattle.live_merge.specs.private.Adding.{Passes, Walking, first_next, next_of, with_number};
+ghost use Rattle.live_merge.specs.private.Adding.{AreNext};
 
 use prof_bytes::Memory;
 use std::alloc::Global;
 use tree_types::{NO_PARENT, Node};
 
-/// The nodes of two trees in one preorder, and the numbers that the nodes of each have there.
+/// The nodes of two trees in one preorder, the numbers that the nodes of each have there, and the node of each that is
+/// next, with its parent's number.
 #[derive(Drop)]
 pub struct Walked {
     pub nodes: Vec<Node>,
     pub left: Vec<u32>,
     pub right: Vec<u32>,
+    left_next: Option<Node>,
+    right_next: Option<Node>,
 }
 
 /// The number of a parent, of which `NO_PARENT` is none.
@@ -64,14 +68,23 @@ fn first_of(a: Option<Node>, b: Option<Node>) -> Option<Node>
     }
 }
 
-/// Gives a node a number in a walk whose next node it is.
-fn pass(nodes: &[Node], numbers: &mut Vec<u32>, node: &Node, number: u32) -> Result<(), Memory>
-    requires { IsPreorder nodes.now }
-    ensures { OnOk result (Passes nodes.now node.now number numbers.old.items numbers.new.items) }
+/// Gives a node a number in a walk whose next node it is, and finds the one after it.
+fn pass(
+    nodes: &[Node],
+    numbers: &mut Vec<u32>,
+    next: &mut Option<Node>,
+    node: &Node,
+    number: u32,
+) -> Result<(), Memory>
+    requires order { IsPreorder nodes.now }
+    requires next { next.old ≡ next_of nodes.now numbers.old.items }
+    ensures passes { OnOk result (Passes nodes.now node.now number numbers.old.items numbers.new.items) }
+    ensures next { OnOk result (next.new ≡ next_of nodes.now numbers.new.items) }
 {
-    if let Some(next) = next_node(nodes, numbers.as_slice()) {
-        if next == *node {
+    if let Some(own) = *next {
+        if own == *node {
             numbers.push(number)?;
+            *next = next_node(nodes, numbers.as_slice());
         }
     }
     Ok(())
@@ -80,15 +93,16 @@ fn pass(nodes: &[Node], numbers: &mut Vec<u32>, node: &Node, number: u32) -> Res
 /// Puts a node in order, which is the first of those that are next.
 fn put(a: &[Node], b: &[Node], walked: &mut Walked, node: Node) -> Result<(), Memory>
     requires walking { Walking a.now b.now walked.old.left.items walked.old.right.items walked.old.nodes.items }
-    requires first { first_next (next_of a.now walked.old.left.items) (next_of b.now walked.old.right.items)
-        ≡ Some node }
+    requires next { AreNext a.now b.now walked.old }
+    requires first { first_next walked.old.left_next walked.old.right_next ≡ Some node }
     ensures walking { OnOk result
         (Walking a.now b.now walked.new.left.items walked.new.right.items walked.new.nodes.items) }
+    ensures next { OnOk result (AreNext a.now b.now walked.new) }
     ensures nodes { OnOk result (walked.new.nodes.items ≡ walked.old.nodes.items ++ node ∷ []) }
 {
     let number = walked.nodes.len() as u32;
-    pass(a, &mut walked.left, &node, number)?;
-    pass(b, &mut walked.right, &node, number)?;
+    pass(a, &mut walked.left, &mut walked.left_next, &node, number)?;
+    pass(b, &mut walked.right, &mut walked.right_next, &node, number)?;
     walked.nodes.push(node)?;
     Ok(())
 }
@@ -106,11 +120,10 @@ pub fn walk(alloc: Global, a: &[Node], b: &[Node]) -> Result<Walked, Memory>
         nodes: Vec::new(alloc),
         left: Vec::new(alloc),
         right: Vec::new(alloc),
+        left_next: next_node(a, &[]),
+        right_next: next_node(b, &[]),
     };
-    while let Some(node) = first_of(
-        next_node(a, walked.left.as_slice()),
-        next_node(b, walked.right.as_slice()),
-    ) {
+    while let Some(node) = first_of(walked.left_next, walked.right_next) {
         put(a, b, &mut walked, node)?;
     }
     Ok(walked)

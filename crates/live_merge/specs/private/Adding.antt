@@ -11,6 +11,7 @@ use Rattle.tree_types.specs.Tree.{IsPreorder}
 use Rattle.path_trie.specs.Trie.{IsIndex}
 use Rattle.path_trie.specs.private.Linked.{linked_node}
 use Rattle.tree_join.specs.private.Walk.{number_given, parent_number_at, path_or_none, node_before}
+use Rattle.live_merge.specs.declared.walk.Walked.{Walked}
 
 -- a node with its parent's number
 abbrev pub with_number : List ℕ → Node → Node
@@ -57,6 +58,11 @@ pub record Walking (a b : List Node) (left right : List ℕ) (order : List Node)
       → Contains (tree_paths a ++ tree_paths b) (path_or_none (tree_paths order) i)
   pub few : length order ≤ length left + length right
   pub nodes : length a + length b < no_parent
+
+-- the nodes that are next in both walks
+pub record AreNext (a b : List Node) (w : Walked) : Type 0 where
+  pub left : w.left_next ≡ next_of a w.left.items
+  pub right : w.right_next ≡ next_of b w.right.items
 
 -- a count by the node's number
 abbrev pub count_with : List ℕ → NodeCount → NodeCount

@@ -1,6 +1,6 @@
 -- Epochs of a run, as they are counted and merged.
 use Rattle.std.specs.Prelude.{◌≡◌, ℕ, ◌+◌, ◌<◌, ◌≤◌, List, [], ◌++◌, map, length, sum_by, All, Result, Ok, Err}
-use Rattle.std.specs.Prelude.{◌∷◌, Option, Some, None, true, false}
+use Rattle.std.specs.Prelude.{◌∷◌, Option, Some, None, IfSome, true, false}
 use Rattle.prof_bytes.specs.declared.fail.Fail.{Fail}
 use Rattle.prof_bytes.specs.declared.fail.Fail.TheVariants as fails
 use Rattle.prof_bytes.specs.Outcome.{FailsBy}
@@ -146,6 +146,15 @@ HasTree t = t.is_over ≡ false → 0 < length t.trees.items
 abbrev pub GivesSum : (Raw → List Scope) → ℕ → List ColumnRaw → Option CountedTree → Type 0
 GivesSum call_path columns done None = HaveTooManyScopes call_path columns done
 GivesSum call_path columns done (Some tree) = HasPaths (sampled_paths call_path done) tree
+
+-- the sum of the trees and of the last epoch's, whose samples were counted: it has as many columns, and is the tree of
+-- all samples, unless these have too many scopes
+pub record AddsAll (call_path : Raw → List Scope) (epoch : List (List Counted)) (old : Trees) (sum : Option CountedTree)
+    : Type 0 where
+  pub columns : IfSome sum (λ tree. tree.columns ≡ length epoch)
+  pub sum_is : (done own : List ColumnRaw) → All (λ s. s.column < length epoch) (done ++ own)
+      → AreMerged call_path (length epoch) done old → epoch ≡ distinct (length epoch) own
+      → GivesSum call_path (length epoch) (done ++ own) sum
 
 -- the last tree is taken where it is of this level, and none else
 abbrev pub TakesLevel : ℕ → Option CountedTree → List Grown → List Grown → Type 0

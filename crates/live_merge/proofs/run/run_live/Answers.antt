@@ -2,7 +2,7 @@ use Rattle.std.proofs.Common.{◌*◌, ◌+◌, ◌<◌, ◌≤◌, [], length, 
 use Rattle.std.proofs.lemmas.Result.{err_from_is_err_and}
 use Rattle.scope_types.specs.Limits.{most_samples}
 use Rattle.live_merge.proofs.Epochs.{no_samples}
-use Rattle.live_merge.proofs.Running.{all_long, coming_own, count_fits, epoch_stands, fewer_left, first_epoch, first_step, give_whole, last_long, merged_all, next_answer, next_gives, next_stands, next_step, own_first, whole_answer, whole_fails, whole_stands}
+use Rattle.live_merge.proofs.Running.{all_long, as_long, coming_own, count_fits, epoch_stands, fewer_left, first_epoch, first_step, give_whole, next_answer, next_gives, next_stands, next_step, own_first, whole_answer, whole_fails, whole_stands}
 use Rattle.live_merge.proofs.run.run_live.Goals as goal
 
 pub next_epoch-requires-clause-own : goal.next_epoch-requires-clause-own
@@ -57,24 +57,24 @@ loop-last-preserved g c =
     next_step (g.U.Unwind.path_of c.args.unwinder.now) (g.E.Expand.call_path c.args.expand.now) (c.args.harts * c.args.events) c.args.epoch c.args.samples.now c.loop-last.samples c.loop-last.all c.loop-last.trees c.loop-last.last c.loop-last.count c.loop-last.invariant (c.samples_are_counted.ensures.columns (c.args.harts * c.args.events)) c.loop-last-test.true c.requires.own c.in_ok-next.next c.run_and_merge.new.all c.run_and_merge.new.samples c.run_and_merge.new.trees
     (next_gives (g.U.Unwind.path_of c.args.unwinder.now) (g.E.Expand.call_path c.args.expand.now) (c.args.harts * c.args.events) c.args.epoch c.args.samples.now c.loop-last.samples c.loop-last.all c.loop-last.trees c.loop-last.last c.loop-last.count c.loop-last.invariant (c.samples_are_counted.ensures.columns (c.args.harts * c.args.events)) (Ok c.in_ok-next.next) c.run_and_merge.new.all c.run_and_merge.new.samples c.in_ok-next.ensures.run) c.in_ok-next.ensures.merged
 
+pub whole-requires-clause-columns : goal.whole-requires-clause-columns
+whole-requires-clause-columns g c κs within = as_long (g.U.Unwind.path_of c.args.unwinder.now) (g.E.Expand.call_path c.args.expand.now) (c.args.harts * c.args.events) c.args.epoch c.args.samples.now c.loop-last.samples c.loop-last.all c.loop-last.trees c.loop-last.last c.loop-last.count c.loop-last.invariant (c.samples_are_counted.ensures.columns (c.args.harts * c.args.events))
+
 pub returns-in_err-tree-clause-answer : goal.returns-in_err-tree-clause-answer
 returns-in_err-tree-clause-answer g c =
     let p = err_from_is_err_and c.from_residual-in_err-tree.result c.from_residual-in_err-tree.ensures.1 in
     rw (p.1, p.2)
     (whole_fails (g.U.Unwind.path_of c.args.unwinder.now) (g.E.Expand.call_path c.args.expand.now) (c.args.harts * c.args.events) c.args.epoch c.args.samples.now c.loop-last.samples c.loop-last.all c.loop-last.trees c.loop-last.last c.loop-last.count c.loop-last.invariant c.loop-last-test.false c.in_err-tree.field-0.0
-    (give_whole (g.U.Unwind.path_of c.args.unwinder.now) (g.E.Expand.call_path c.args.expand.now) (c.args.harts * c.args.events) c.args.epoch c.args.samples.now c.loop-last.samples c.loop-last.all c.loop-last.trees c.loop-last.last c.loop-last.count c.loop-last.invariant (c.samples_are_counted.ensures.columns (c.args.harts * c.args.events)) c.merge.new.self (Err c.in_err-tree.field-0.0)
-    (merged_all (g.U.Unwind.path_of c.args.unwinder.now) (g.E.Expand.call_path c.args.expand.now) (c.args.harts * c.args.events) c.args.epoch c.args.samples.now c.loop-last.samples c.loop-last.all c.loop-last.trees c.loop-last.last c.loop-last.count c.loop-last.invariant (last_long (g.U.Unwind.path_of c.args.unwinder.now) (g.E.Expand.call_path c.args.expand.now) (c.args.harts * c.args.events) c.args.epoch c.args.samples.now c.loop-last.samples c.loop-last.all c.loop-last.trees c.loop-last.last c.loop-last.count c.loop-last.invariant (c.samples_are_counted.ensures.columns (c.args.harts * c.args.events))) c.merge.new.self c.in_ok-merge.ensures) c.in_err-tree.ensures.whole))
+    (give_whole (g.U.Unwind.path_of c.args.unwinder.now) (g.E.Expand.call_path c.args.expand.now) (c.args.harts * c.args.events) c.args.epoch c.args.samples.now c.loop-last.samples c.loop-last.all c.loop-last.trees c.loop-last.last c.loop-last.count c.loop-last.invariant (c.samples_are_counted.ensures.columns (c.args.harts * c.args.events)) (Err c.in_err-tree.field-0.0) c.in_err-tree.ensures.whole))
 
 pub returns-in_err-tree-clause-stands : goal.returns-in_err-tree-clause-stands
 returns-in_err-tree-clause-stands g c =
     let p = err_from_is_err_and c.from_residual-in_err-tree.result c.from_residual-in_err-tree.ensures.1 in
     rw (p.1, p.2)
     (whole_stands (g.U.Unwind.path_of c.args.unwinder.now) (g.E.Expand.call_path c.args.expand.now) (c.args.harts * c.args.events) c.args.epoch c.args.samples.now c.loop-last.samples c.loop-last.all c.loop-last.trees c.loop-last.last c.loop-last.count c.loop-last.invariant c.loop-last-test.false c.in_err-tree.field-0.0
-    (give_whole (g.U.Unwind.path_of c.args.unwinder.now) (g.E.Expand.call_path c.args.expand.now) (c.args.harts * c.args.events) c.args.epoch c.args.samples.now c.loop-last.samples c.loop-last.all c.loop-last.trees c.loop-last.last c.loop-last.count c.loop-last.invariant (c.samples_are_counted.ensures.columns (c.args.harts * c.args.events)) c.merge.new.self (Err c.in_err-tree.field-0.0)
-    (merged_all (g.U.Unwind.path_of c.args.unwinder.now) (g.E.Expand.call_path c.args.expand.now) (c.args.harts * c.args.events) c.args.epoch c.args.samples.now c.loop-last.samples c.loop-last.all c.loop-last.trees c.loop-last.last c.loop-last.count c.loop-last.invariant (last_long (g.U.Unwind.path_of c.args.unwinder.now) (g.E.Expand.call_path c.args.expand.now) (c.args.harts * c.args.events) c.args.epoch c.args.samples.now c.loop-last.samples c.loop-last.all c.loop-last.trees c.loop-last.last c.loop-last.count c.loop-last.invariant (c.samples_are_counted.ensures.columns (c.args.harts * c.args.events))) c.merge.new.self c.in_ok-merge.ensures) c.in_err-tree.ensures.whole))
+    (give_whole (g.U.Unwind.path_of c.args.unwinder.now) (g.E.Expand.call_path c.args.expand.now) (c.args.harts * c.args.events) c.args.epoch c.args.samples.now c.loop-last.samples c.loop-last.all c.loop-last.trees c.loop-last.last c.loop-last.count c.loop-last.invariant (c.samples_are_counted.ensures.columns (c.args.harts * c.args.events)) (Err c.in_err-tree.field-0.0) c.in_err-tree.ensures.whole))
 
 pub returns-clause-answer : goal.returns-clause-answer
 returns-clause-answer g c =
     whole_answer (g.U.Unwind.path_of c.args.unwinder.now) (g.E.Expand.call_path c.args.expand.now) (c.args.harts * c.args.events) c.args.epoch c.args.samples.now c.loop-last.samples c.loop-last.all c.loop-last.trees c.loop-last.last c.loop-last.count c.loop-last.invariant c.loop-last-test.false c.in_ok-tree.tree (c.in_ok-tree.ensures.columns ∙ all_long (g.U.Unwind.path_of c.args.unwinder.now) (g.E.Expand.call_path c.args.expand.now) (c.args.harts * c.args.events) c.args.epoch c.args.samples.now c.loop-last.samples c.loop-last.all c.loop-last.trees c.loop-last.last c.loop-last.count c.loop-last.invariant (c.samples_are_counted.ensures.columns (c.args.harts * c.args.events)))
-    (give_whole (g.U.Unwind.path_of c.args.unwinder.now) (g.E.Expand.call_path c.args.expand.now) (c.args.harts * c.args.events) c.args.epoch c.args.samples.now c.loop-last.samples c.loop-last.all c.loop-last.trees c.loop-last.last c.loop-last.count c.loop-last.invariant (c.samples_are_counted.ensures.columns (c.args.harts * c.args.events)) c.merge.new.self (Ok c.in_ok-tree.tree)
-    (merged_all (g.U.Unwind.path_of c.args.unwinder.now) (g.E.Expand.call_path c.args.expand.now) (c.args.harts * c.args.events) c.args.epoch c.args.samples.now c.loop-last.samples c.loop-last.all c.loop-last.trees c.loop-last.last c.loop-last.count c.loop-last.invariant (last_long (g.U.Unwind.path_of c.args.unwinder.now) (g.E.Expand.call_path c.args.expand.now) (c.args.harts * c.args.events) c.args.epoch c.args.samples.now c.loop-last.samples c.loop-last.all c.loop-last.trees c.loop-last.last c.loop-last.count c.loop-last.invariant (c.samples_are_counted.ensures.columns (c.args.harts * c.args.events))) c.merge.new.self c.in_ok-merge.ensures) c.in_ok-tree.ensures.whole)
+    (give_whole (g.U.Unwind.path_of c.args.unwinder.now) (g.E.Expand.call_path c.args.expand.now) (c.args.harts * c.args.events) c.args.epoch c.args.samples.now c.loop-last.samples c.loop-last.all c.loop-last.trees c.loop-last.last c.loop-last.count c.loop-last.invariant (c.samples_are_counted.ensures.columns (c.args.harts * c.args.events)) (Ok c.in_ok-tree.tree) c.in_ok-tree.ensures.whole)
