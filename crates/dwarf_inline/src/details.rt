@@ -1,5 +1,6 @@
 //! The ranges of the items, and what they add to an item.
-ghost use Rattle.std.specs.Prelude.{◌≡◌, ◌+◌, ◌<◌, ◌≤◌, ◌^◌, ◌++◌, ℕ, Some, true, length, map, slice_get, IfOk, OnOk};
+ghost use Rattle.std.specs.Prelude.{◌≡◌, ◌+◌, ◌-◌, ◌<◌, ◌≤◌, ◌^◌, ◌++◌, ℕ, Some, None, true, length, map, slice_get};
+ghost use Rattle.std.specs.Prelude.{IfOk, OnOk};
 ghost use Rattle.std.specs.List.{flat_map};
 ghost use Rattle.dwarf_info.specs.Subroutines.{item_entries, subroutine_entry};
 ghost use Rattle.dwarf_inline.specs.Structure.{counted_ranges, unit_line_table, call_row, call_at};
@@ -107,7 +108,8 @@ fn call_at(sources: Sources<'_, '_, '_, '_>, index: u32, ranges: &[(u32, u32)]) 
 
 /// Whether an item without a range has the same detail as one before it.
 fn is_shared(last: Detail, detail: Detail) -> bool
-    ensures { result ≡ true → last ≡ detail }
+    ensures same { result ≡ true → last ≡ detail }
+    ensures shared { detail.call ≡ None → last ≡ detail → result ≡ true }
 {
     match (last.call, detail.call) {
         (None, None) => {
@@ -124,6 +126,9 @@ fn add_detail(details: &mut Vec<Detail>, detail: Detail) -> Result<u32, Memory>
     ensures keeps { IfOk result (λ _. (i : ℕ) → i < length details.old.items
         → slice_get details.new.items i ≡ slice_get details.old.items i) }
     ensures few { IfOk result (λ _. length details.new.items ≤ length details.old.items + 1) }
+    ensures shared { IfOk result (λ _. detail.call ≡ None
+        → slice_get details.old.items (length details.old.items - 1) ≡ Some detail
+        → details.new.items ≡ details.old.items) }
 {
     let count = details.len();
     if count > 0 && is_shared(details[count - 1], detail) {
