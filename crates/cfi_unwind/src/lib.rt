@@ -20,6 +20,3 @@ mod unwinder;
 
 pub use laws::{paths_are_chains, paths_have_frames};
 pub use unwinder::Unwinder;
-
-#[cfg(test)]
-mod tests;

@@ -110,55 +110,49 @@ fn frames_of(alloc: Global, hex: &[u8]) -> Result<FrameTable, Unread> {
     frames_in(alloc, &file, &section)
 }
 
-/// The first row that does not hold of a section of the program.
+/// The first row that does not hold of a section of the program, after the section's name.
 fn failing_rules(
     alloc: Global,
+    name: &'static str,
     hex: &[u8],
     rows: &[&'static str],
-) -> Result<Option<&'static str>, Unread> {
+) -> Result<Option<(&'static str, &'static str)>, Unread> {
     let table = frames_of(alloc, hex)?;
-    Ok(failing(alloc, &table, rows)?)
+    match failing(alloc, &table, rows)? {
+        Some(row) => Ok(Some((name, row))),
+        None => Ok(None),
+    }
 }
 
-#[test]
-fn rules_of_gcc(rt: HostRuntime) -> Result<(), Fail> {
-    let other = failing_rules(rt.alloc(), sections::gcc(), &sections::GCC_RULES)?;
-    no_row(other)
-}
-
-#[test]
-fn rules_of_clang(rt: HostRuntime) -> Result<(), Fail> {
-    let other = failing_rules(rt.alloc(), sections::clang(), &sections::CLANG_RULES)?;
-    no_row(other)
-}
-
-#[test]
-fn rules_of_every_directive(rt: HostRuntime) -> Result<(), Fail> {
+/// The same of all sections.
+fn other_rules(alloc: Global) -> Result<Option<(&'static str, &'static str)>, Unread> {
+    let gcc = failing_rules(alloc, "gcc", sections::gcc(), &sections::GCC_RULES)?;
+    let clang = failing_rules(alloc, "clang", sections::clang(), &sections::CLANG_RULES)?;
     let section = sections::directives();
-    let other = failing_rules(rt.alloc(), section, &sections::DIRECTIVES_RULES)?;
-    no_row(other)
+    let each = failing_rules(
+        alloc,
+        "each directive",
+        section,
+        &sections::DIRECTIVES_RULES,
+    )?;
+    let section = sections::locations();
+    let moved = failing_rules(alloc, "locations move", section, &sections::LOCATIONS_RULES)?;
+    Ok(gcc.or(clang).or(each).or(moved))
 }
 
 #[test]
-fn rules_where_locations_move(rt: HostRuntime) -> Result<(), Fail> {
-    let other = failing_rules(
-        rt.alloc(),
-        sections::locations(),
-        &sections::LOCATIONS_RULES,
-    )?;
-    no_row(other)
-}
-
-/// An FDE, and the rules at 0x10018, as text.
-fn fde_and_rules(alloc: Global, table: &FrameTable, fde: u32) -> Result<String, Memory> {
-    let rules = shown(alloc, table, 0x10018)?;
-    Ok(format!(in alloc; "{fde} {}", rules.as_str())?)
+fn rules_at_each_address(rt: HostRuntime) -> Result<(), Fail> {
+    assert_eq!(rt; other_rules(rt.alloc())?, None);
+    Ok(())
 }
 
 /// The FDE that holds 0x10010 with the rules at 0x10018, as text.
 fn answer_of(alloc: Global, table: &FrameTable) -> Result<String, Memory> {
     match table.fde_at(0x10010) {
-        Some(fde) => fde_and_rules(alloc, table, fde),
+        Some(fde) => {
+            let rules = shown(alloc, table, 0x10018)?;
+            Ok(format!(in alloc; "{fde} {}", rules.as_str())?)
+        }
         None => Ok(String::from_str(alloc, "none")?),
     }
 }
@@ -212,11 +206,6 @@ fn other_change(alloc: Global) -> Result<Option<&'static str>, Unread> {
     Ok(None)
 }
 
-#[test]
-fn faults_by_their_offsets(rt: HostRuntime) -> Result<(), Fail> {
-    no_row(other_change(rt.alloc())?)
-}
-
 /// Addresses, and how many bytes the rules there are made from: 3 of the CIE and 12 of the FDE.
 static BYTES: [(u32, u64); 5] = [
     (0, 0),
@@ -243,7 +232,8 @@ fn other_bytes_of_one_entry(alloc: Global) -> Result<Option<u32>, Unread> {
 }
 
 #[test]
-fn bytes_of_instructions(rt: HostRuntime) -> Result<(), Fail> {
+fn faults_by_their_offsets_and_bytes_of_instructions(rt: HostRuntime) -> Result<(), Fail> {
+    no_row(other_change(rt.alloc())?)?;
     assert_eq!(rt; other_bytes_of_one_entry(rt.alloc())?, None);
     Ok(())
 }

@@ -8,7 +8,7 @@ use scope_types::{End, Look, PartialCause, RawPath, Unwind};
 use std::alloc::Global;
 use std::test::Fail;
 use test_programs::program::{Unread, image_of, table_of};
-use test_programs::rows::{bytes_of, replaced};
+use test_programs::rows::{bytes_of, no_row, replaced};
 
 mod causes;
 mod programs;
@@ -127,43 +127,94 @@ fn path_in<M: Look>(
     path_in_file(alloc, &file, pc, values, memory)
 }
 
-/// Instructions of the recursion: their addresses, x1 and x2 before them, and their paths. The stack
+/// Instructions of the recursion: a name, the address, x1 and x2 before it, how its path ends, and its frames. The stack
 /// pointer is 0xf00ffff0 at the start.
-static RECURSION_PATHS: [(u32, u32, u32, &[u32]); 7] = [
-    (0x1_0000, 0, 0xf00f_fff0, &[0x1_0000]),
-    (0x1_0004, 0, 0xf00f_fff0, &[0x1_0004]),
-    // Before the stack pointer moves, right after it, and after x1 is saved.
-    (0x1_0010, 0x1_0008, 0xf00f_fff0, &[0x1_0010, 0x1_0004]),
-    (0x1_0014, 0x1_0008, 0xf00f_ffe0, &[0x1_0014, 0x1_0004]),
-    (0x1_0018, 0x1_0008, 0xf00f_ffe0, &[0x1_0018, 0x1_0004]),
+static RECURSION_PATHS: [(&str, u32, u32, u32, End, &[u32]); 8] = [
     (
+        "the entry",
+        0x1_0000,
+        0,
+        0xf00f_fff0,
+        End::Whole,
+        &[0x1_0000],
+    ),
+    (
+        "the first call",
+        0x1_0004,
+        0,
+        0xf00f_fff0,
+        End::Whole,
+        &[0x1_0004],
+    ),
+    (
+        "before the stack pointer moves",
+        0x1_0010,
+        0x1_0008,
+        0xf00f_fff0,
+        End::Whole,
+        &[0x1_0010, 0x1_0004],
+    ),
+    (
+        "right after it",
+        0x1_0014,
+        0x1_0008,
+        0xf00f_ffe0,
+        End::Whole,
+        &[0x1_0014, 0x1_0004],
+    ),
+    (
+        "after x1 is saved",
+        0x1_0018,
+        0x1_0008,
+        0xf00f_ffe0,
+        End::Whole,
+        &[0x1_0018, 0x1_0004],
+    ),
+    (
+        "six calls",
         0x1_0024,
         0x1_0024,
         0xf00f_ff90,
+        End::Whole,
         &[
             0x1_0024, 0x1_0020, 0x1_0020, 0x1_0020, 0x1_0020, 0x1_0020, 0x1_0004,
         ],
     ),
-    // x1 is loaded, and the stack pointer is back.
-    (0x1_002c, 0x1_0008, 0xf00f_fff0, &[0x1_002c, 0x1_0004]),
+    (
+        "x1 is loaded, and the stack pointer is back",
+        0x1_002c,
+        0x1_0008,
+        0xf00f_fff0,
+        End::Whole,
+        &[0x1_002c, 0x1_0004],
+    ),
+    (
+        "after the last procedure, which no frame description holds",
+        0x1_0030,
+        0,
+        0,
+        End::Partial(PartialCause::NoFde),
+        &[0x1_0030],
+    ),
 ];
 
-/// Whether an instruction of the recursion has this whole path.
+/// Whether an instruction of the recursion has this path.
 fn recursion_has_path(
     alloc: Global,
     pc: u32,
     values: &[(usize, u32)],
+    end: End,
     wanted: &[u32],
 ) -> Result<bool, Unread> {
     let path = path_in(alloc, RECURSION, pc, values, &Recursion)?;
-    Ok(is_path(&path, End::Whole, wanted))
+    Ok(is_path(&path, end, wanted))
 }
 
-/// The index of the first of these instructions that has another path.
-fn other_recursion_path(alloc: Global) -> Result<Option<usize>, Unread> {
-    for (index, (pc, x1, x2, wanted)) in RECURSION_PATHS.iter().enumerate() {
-        if !recursion_has_path(alloc, *pc, &[(1, *x1), (2, *x2)], wanted)? {
-            return Ok(Some(index));
+/// The first of these instructions that has another path.
+fn other_recursion_path(alloc: Global) -> Result<Option<&'static str>, Unread> {
+    for (name, pc, x1, x2, end, wanted) in &RECURSION_PATHS {
+        if !recursion_has_path(alloc, *pc, &[(1, *x1), (2, *x2)], *end, wanted)? {
+            return Ok(Some(name));
         }
     }
     Ok(None)
@@ -171,8 +222,7 @@ fn other_recursion_path(alloc: Global) -> Result<Option<usize>, Unread> {
 
 #[test]
 fn recursion_is_unwound_at_each_of_its_instructions(rt: HostRuntime) -> Result<(), Fail> {
-    assert_eq!(rt; other_recursion_path(rt.alloc())?, None);
-    Ok(())
+    no_row(other_recursion_path(rt.alloc())?)
 }
 
 /// How many calls of `f` there are, and the path: how many frames, and how it ends.
@@ -202,22 +252,22 @@ fn other_depth(alloc: Global) -> Result<Option<usize>, Unread> {
     Ok(None)
 }
 
-#[test]
-fn a_path_has_512_frames_at_most(rt: HostRuntime) -> Result<(), Fail> {
-    assert_eq!(rt; other_depth(rt.alloc())?, None);
-    Ok(())
-}
-
-/// The path of `h` goes through the last instruction of `g`.
-#[test]
-fn a_call_that_is_a_procedures_last_instruction_is_looked_up_there(
-    rt: HostRuntime,
-) -> Result<(), Fail> {
+/// Whether the path of `h` goes through the last instruction of `g`, a call.
+fn last_call_is_looked_up(alloc: Global) -> Result<bool, Unread> {
     let memory = Words {
         words: &[(0xf00f_ffec, 0x1_0004)],
     };
     let values = [(1, 0x1_0018), (2, 0xf00f_ffe0)];
-    let path = path_in(rt.alloc(), LAST_CALL, 0x1_0018, &values, &memory)?;
-    assert!(rt; is_path(&path, End::Whole, &[0x1_0018, 0x1_0014, 0x1_0000]));
+    let path = path_in(alloc, LAST_CALL, 0x1_0018, &values, &memory)?;
+    Ok(is_path(&path, End::Whole, &[0x1_0018, 0x1_0014, 0x1_0000]))
+}
+
+#[test]
+fn paths_of_512_frames_and_through_a_last_instruction(rt: HostRuntime) -> Result<(), Fail> {
+    let found = (
+        other_depth(rt.alloc())?,
+        last_call_is_looked_up(rt.alloc())?,
+    );
+    assert_eq!(rt; found, (None, true));
     Ok(())
 }

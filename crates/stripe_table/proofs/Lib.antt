@@ -9,4 +9,3 @@ pub mod Settling
 pub mod Starting
 pub mod Marks
 pub mod Owing
-pub mod Tested

@@ -7,7 +7,6 @@ use cfi_table::{
     DW_CFA_def_cfa, DW_CFA_def_cfa_expression, DW_CFA_expression, DW_CFA_offset, DW_CFA_register,
     DW_CFA_undefined, DW_CFA_val_expression, DW_CFA_val_offset, DW_CIE_ID,
 };
-use test_programs::rows::no_row;
 
 /// A CIE with code alignment 1, data alignment -4 and return register x1, with these instructions.
 fn put_cie(section: &mut Vec<u8>, instructions: &[u8]) -> Result<(), Memory> {
@@ -158,26 +157,29 @@ static ENDS: [(&str, &[u8], End); 17] = [
     ),
 ];
 
-/// Whether a path of one frame ends so.
-fn ends_so(alloc: Global, instructions: &[u8], end: End) -> Result<bool, Unread> {
-    let values = [(1, 0x1_0008), (2, 0xf00f_fff0)];
-    let path = path_by(alloc, instructions, &values, &[])?;
-    Ok(is_path(&path, end, &[0x1_0010]))
+/// Whether the path of the instruction at 0x10010 in the recursion with these call frame instructions ends so, and has
+/// these frames.
+fn path_is(
+    alloc: Global,
+    instructions: &[u8],
+    values: &[(usize, u32)],
+    words: &[(u32, u32)],
+    end: End,
+    pcs: &[u32],
+) -> Result<bool, Unread> {
+    let path = path_by(alloc, instructions, values, words)?;
+    Ok(is_path(&path, end, pcs))
 }
 
 /// The first row whose path ends otherwise, or has other frames.
 fn other_end(alloc: Global) -> Result<Option<&'static str>, Unread> {
+    let values = [(1, 0x1_0008), (2, 0xf00f_fff0)];
     for (name, instructions, end) in &ENDS {
-        if !ends_so(alloc, instructions, *end)? {
+        if !path_is(alloc, instructions, &values, &[], *end, &[0x1_0010])? {
             return Ok(Some(name));
         }
     }
     Ok(None)
-}
-
-#[test]
-fn a_path_ends_by_the_first_test_that_holds(rt: HostRuntime) -> Result<(), Fail> {
-    no_row(other_end(rt.alloc())?)
 }
 
 /// A name, instructions, registers and words of memory; how the path of the instruction at 0x10010 ends, and its
@@ -329,31 +331,19 @@ static CALLERS: [Caller; 13] = [
     ),
 ];
 
-/// Whether a row's path ends as it says, and has its frames.
-fn caller_holds(alloc: Global, row: &Caller) -> Result<bool, Unread> {
-    let path = path_by(alloc, row.1, row.2, row.3)?;
-    Ok(is_path(&path, row.4, row.5))
-}
-
-/// The first row whose path ends otherwise, or has other frames.
+/// The same of callers.
 fn other_caller(alloc: Global) -> Result<Option<&'static str>, Unread> {
-    for row in &CALLERS {
-        if !caller_holds(alloc, row)? {
-            return Ok(Some(row.0));
+    for (name, instructions, values, words, end, pcs) in &CALLERS {
+        if !path_is(alloc, instructions, values, words, *end, pcs)? {
+            return Ok(Some(name));
         }
     }
     Ok(None)
 }
 
+/// A path ends by the first test that holds, and a caller has its registers by the rules.
 #[test]
-fn a_caller_has_its_registers_by_the_rules(rt: HostRuntime) -> Result<(), Fail> {
+fn ends_of_paths_and_registers_of_callers(rt: HostRuntime) -> Result<(), Fail> {
+    no_row(other_end(rt.alloc())?)?;
     no_row(other_caller(rt.alloc())?)
-}
-
-/// The path of the address after the last procedure ends there.
-#[test]
-fn an_instruction_that_no_frame_description_holds(rt: HostRuntime) -> Result<(), Fail> {
-    let path = path_in(rt.alloc(), RECURSION, 0x1_0030, &[], &Recursion)?;
-    assert!(rt; is_path(&path, Partial(NoFde), &[0x1_0030]));
-    Ok(())
 }
