@@ -9,3 +9,4 @@ pub mod Settling
 pub mod Starting
 pub mod Marks
 pub mod Owing
+pub mod Tested

@@ -4,3 +4,4 @@ pub mod Seats
 pub mod Found
 pub mod Adding
 pub mod Fields
+pub mod Tested

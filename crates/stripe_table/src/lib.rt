@@ -13,6 +13,8 @@ mod plays;
 mod steps;
 mod stripe;
 mod table;
+#[cfg(test)]
+mod tests;
 mod view;
 
 pub use ends::StripeSet;

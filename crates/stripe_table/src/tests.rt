@@ -19,7 +19,6 @@ use std::process::Abort;
 use std::test::Fail;
 use thread_cct::{Ccts, Pieces, Plan, TooManyFrames};
 
-mod take;
 mod threads;
 
 /// Expands a frame to its address, in a procedure without a name.
