@@ -16,7 +16,7 @@ PHASES = [
     ("expand and merge", "std::thread::fork::chunks_from"),
     ("join, values", "tree_join::stripes::join_stripes"),
     ("planes", "sparse_planes::both::"),
-    ("database and table, store", "hpc_top::both::"),
+    ("database and table, store", "run_profile::both::"),
 ]
 
 

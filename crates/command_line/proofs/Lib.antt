@@ -2,3 +2,4 @@ pub mod Line
 pub mod Named
 pub mod Items
 pub mod Merged
+pub mod Faults

@@ -1,5 +1,5 @@
 -- The kinds of files, and the files that a command reads.
-use Rattle.std.specs.Prelude.{ℕ, List, map, codes}
+use Rattle.std.specs.Prelude.{ℕ, ◌≤◌, List, [], ◌∷◌, length, map, codes}
 use Rattle.measure_file.specs.Spelling.{measurement_limit}
 use Rattle.command_line.specs.declared.kind.FileKind.{FileKind}
 use Rattle.command_line.specs.declared.kind.FileKind.TheVariants as kinds
@@ -22,6 +22,21 @@ row_of kinds.Trace = record { word = codes "trace"; limit = 67108864 }
 -- the most bytes of a file of a kind
 abbrev pub file_limit : FileKind → ℕ
 file_limit file = (row_of file).limit
+
+-- the most bytes of a program
+abbrev pub program_limit : ℕ
+program_limit = file_limit kinds.Program
+
+-- the most bytes of a schedule
+abbrev pub schedule_limit : ℕ
+schedule_limit = file_limit kinds.Schedule
+
+-- one text for each file of these kinds, and within its limit
+abbrev pub AreWithin : List (List ℕ) → List FileKind → Type 0
+AreWithin [] [] = Unit {0}
+AreWithin (text ∷ texts) (file ∷ files) = (length text ≤ file_limit file) × AreWithin texts files
+AreWithin [] (file ∷ files) = ⊥
+AreWithin (text ∷ texts) [] = ⊥
 
 -- a file to be fetched, of this kind and with this name
 pub record Wanted : Type 0 where

@@ -142,3 +142,12 @@ pub(crate) fn periods_in(alloc: Global, word: &[u8]) -> Result<Option<Listed<Eve
         None => events_in(alloc, word),
     }
 }
+
+/// Events of their own.
+pub fn copied_events(alloc: Global, events: &[EventPeriod]) -> Result<Vec<EventPeriod>, Memory>
+    ensures { IfOk result (λ copy. copy.items ≡ events.now) }
+{
+    let mut copy = Vec::new(alloc);
+    copy.extend_from_slice(events)?;
+    Ok(copy)
+}

@@ -28,19 +28,20 @@ use Rattle.scope_types.specs.Raw.{Raw}
 use Rattle.command_line.specs.declared.status.InputFault.{InputFault}
 use Rattle.command_line.specs.declared.status.InputFault.TheVariants.{Measurement, WrongProgram}
 use Rattle.hpc_laws.specs.Apart.{IsApart, RunThenProf}
-use Rattle.hpc_top.specs.Attribution.{Attributed, attributed, attribution_of, call_paths_of, event_content, event_tables, table_of_event}
-use Rattle.hpc_top.specs.Faulted.{faulted}
-use Rattle.hpc_top.specs.Measured.{Measured, lines_of, measured}
-use Rattle.hpc_top.specs.Program.{frame_information, program, scheduled}
-use Rattle.hpc_top.specs.Samples.{run_columns, sample_path}
-use Rattle.hpc_top.specs.Scopes.{program_scopes}
+use Rattle.run_profile.specs.Attribution.{Attributed, attributed, attribution_of, call_paths_of, event_content, event_tables, table_of_event}
+use Rattle.command_line.specs.Faulted.{faulted}
+use Rattle.program_run.specs.Measured.{Measured, lines_of, measured}
+use Rattle.program_run.specs.Program.{frame_information, program, scheduled}
+use Rattle.program_run.specs.Samples.{run_columns}
+use Rattle.run_profile.specs.Attribution.{sample_path}
+use Rattle.program_run.specs.Scopes.{program_scopes}
 use Rattle.hpc_top.specs.commands.Prof.{attributed_code, of_program, prof_product}
 use Rattle.hpc_top.specs.commands.Profile.{Profiled, product_of, profile_of, profiled, profiled_of, profiled_program}
-use Rattle.hpc_top.specs.commands.Run.{counted_in, head_of, measurement_of, run_product}
-use Rattle.hpc_top.proofs.FewEvents.{own_columns}
+use Rattle.program_run.specs.commands.Run.{counted_in, head_of, measurement_of, run_product}
+use Rattle.program_run.proofs.RunColumns.{own_columns}
 use Rattle.hpc_laws.proofs.FlatTables.{count_mapped}
-use Rattle.hpc_top.proofs.Products.{ContentsAlike, EventsAlike, TablesAlike, attributed_as, by_scopes}
-use Rattle.hpc_top.proofs.Addresses.{OfInstructions, PathsHaveFrames, PathsHaveWords}
+use Rattle.run_profile.proofs.Products.{ContentsAlike, EventsAlike, TablesAlike, attributed_as, by_scopes}
+use Rattle.program_run.proofs.Addresses.{OfInstructions, PathsHaveFrames, PathsHaveWords}
 use Rattle.hpc_laws.proofs.Ran.{AreTaken, Countable, EachColumn, RunParts, Written, events_are, run_measurable, samples_taken}
 
 pub same_number : (n : ℕ) → (n == n) ≡ true

@@ -14,7 +14,7 @@ use Rattle.scope_types.specs.Raw.{Raw}
 use Rattle.tree_types.specs.Nodes.{nodes}
 use Rattle.tree_types.specs.Paths.{Path}
 use Rattle.tree_types.proofs.PathsAgain.{sum_by-map}
-use Rattle.hpc_top.specs.Samples.{sample_path}
+use Rattle.run_profile.specs.Attribution.{sample_path}
 use Rattle.hpc_laws.proofs.Apart.{SamplesAlike}
 
 abbrev Tables : Type 0

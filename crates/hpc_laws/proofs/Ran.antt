@@ -34,20 +34,21 @@ use Rattle.scope_types.specs.Limits.{most_frames_in_all, most_harts, most_scopes
 use Rattle.command_line.specs.declared.status.InputFault.{InputFault}
 use Rattle.command_line.specs.declared.status.InputFault.TheVariants.{Entries, Lines, Measurement, Program, Structure, TooManyFrames, TooManySamples, TooManyScopes, Trace, WrongProgram}
 use Rattle.command_line.specs.Words.{most_period}
-use Rattle.hpc_top.specs.Attribution.{attributed}
+use Rattle.run_profile.specs.Attribution.{attributed}
 use Rattle.hpc_laws.specs.Databases.{RunsStoreMeasurements}
-use Rattle.hpc_top.specs.Faulted.{faulted}
-use Rattle.hpc_top.specs.Measured.{Measured, measured, measured_run}
-use Rattle.hpc_top.specs.declared.product.Product.{Product}
-use Rattle.hpc_top.specs.Program.{frame_information, program, scheduled}
-use Rattle.hpc_top.specs.Samples.{few_samples, run_columns, sampled, within_frames, within_samples, within_scopes}
-use Rattle.hpc_top.specs.Scopes.{debug_entries, debug_sections, debug_texts, line_tables, program_scopes, table_offsets}
-use Rattle.hpc_top.specs.Verdict.{program_limit}
+use Rattle.command_line.specs.Faulted.{faulted}
+use Rattle.program_run.specs.Measured.{Measured, measured, measured_run}
+use Rattle.command_line.specs.declared.product.Product.{Product}
+use Rattle.program_run.specs.Program.{frame_information, program, scheduled}
+use Rattle.program_run.specs.Samples.{few_samples, run_columns, sampled, within_frames, within_samples}
+use Rattle.run_profile.specs.Attribution.{within_scopes}
+use Rattle.program_run.specs.Scopes.{debug_entries, debug_sections, debug_texts, line_tables, program_scopes, table_offsets}
+use Rattle.command_line.specs.Kind.{program_limit}
 use Rattle.hpc_top.specs.commands.Prof.{attributed_code, is_of_program, measurement, of_program, prof_product}
-use Rattle.hpc_top.specs.commands.Run.{counted_in, head_of, measurement_of, run_product}
+use Rattle.program_run.specs.commands.Run.{counted_in, head_of, measurement_of, run_product}
 use Rattle.std.specs.Prelude.{codes}
-use Rattle.hpc_top.proofs.Addresses.{IsOf, OfInstructions, PathsHaveFrames, PathsHaveWords, low_first, samples_frames, samples_own, samples_words, slices_of}
-use Rattle.hpc_top.proofs.Collecting.{at_most, tested_ok}
+use Rattle.program_run.proofs.Addresses.{IsOf, OfInstructions, PathsHaveFrames, PathsHaveWords, low_first, samples_frames, samples_own, samples_words, slices_of}
+use Rattle.program_run.proofs.Collecting.{at_most, tested_ok}
 use Rattle.hpc_laws.proofs.Scheduled.{entry_low, program_loaded, scheduled_own}
 
 -- the parts of a program, and its run

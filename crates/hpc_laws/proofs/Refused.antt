@@ -34,14 +34,15 @@ use Rattle.scope_types.specs.Raw.{Raw}
 use Rattle.tree_types.specs.Ascending.{ascending}
 use Rattle.command_line.specs.declared.status.InputFault.{InputFault}
 use Rattle.command_line.specs.declared.status.InputFault.TheVariants.{Entries, Lines, Program, Schedule, Structure, TooManyFrames, TooManySamples, TooManyScopes}
-use Rattle.hpc_top.specs.Attribution.{Attributed, attributed}
-use Rattle.hpc_top.specs.Faulted.{faulted}
-use Rattle.hpc_top.specs.Measured.{Measured, measured, measured_run}
-use Rattle.hpc_top.specs.Product.{only_text}
-use Rattle.hpc_top.specs.declared.product.Product.{Product}
-use Rattle.hpc_top.specs.Program.{frame_fault, frame_information, program, scheduled}
-use Rattle.hpc_top.specs.Samples.{column_raw, few_samples, run_columns, sampled, within_frames, within_samples, within_scopes}
-use Rattle.hpc_top.specs.Scopes.{debug_entries, debug_sections, debug_texts, line_tables, program_scopes, table_offsets}
+use Rattle.run_profile.specs.Attribution.{Attributed, attributed}
+use Rattle.command_line.specs.Faulted.{faulted}
+use Rattle.program_run.specs.Measured.{Measured, measured, measured_run}
+use Rattle.command_line.specs.Product.{only_text}
+use Rattle.command_line.specs.declared.product.Product.{Product}
+use Rattle.program_run.specs.Program.{frame_fault, frame_information, program, scheduled}
+use Rattle.program_run.specs.Samples.{column_raw, few_samples, run_columns, sampled, within_frames, within_samples}
+use Rattle.run_profile.specs.Attribution.{within_scopes}
+use Rattle.program_run.specs.Scopes.{debug_entries, debug_sections, debug_texts, line_tables, program_scopes, table_offsets}
 use Rattle.hpc_top.specs.commands.Drill.{drill_product, drill_text}
 use Rattle.hpc_top.specs.commands.Profile.{Profiled, profiled, profiled_of, profiled_program}
 

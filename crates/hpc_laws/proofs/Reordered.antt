@@ -32,22 +32,23 @@ use Rattle.thread_cct.specs.Adding.{behind_columns}
 use Rattle.command_line.specs.declared.status.InputFault.{InputFault}
 use Rattle.command_line.specs.declared.status.InputFault.TheVariants.{Merging, TooManyFrames}
 use Rattle.command_line.specs.declared.status.MergeFault.TheVariants as merge_faults
-use Rattle.hpc_top.specs.Attribution.{Attributed, attributed, attribution_of, event_tables, table_of_event}
-use Rattle.hpc_top.specs.Faulted.{faulted}
+use Rattle.run_profile.specs.Attribution.{Attributed, attributed, attribution_of, event_tables, table_of_event}
+use Rattle.command_line.specs.Faulted.{faulted}
 use Rattle.hpc_laws.specs.Order.{OrderRenumbers, PutsSame, exchanged}
-use Rattle.hpc_top.specs.declared.product.Product.{Product}
-use Rattle.hpc_top.specs.Program.{program}
-use Rattle.hpc_top.specs.Samples.{sample_path, within_frames}
-use Rattle.hpc_top.specs.Scopes.{program_scopes}
+use Rattle.command_line.specs.declared.product.Product.{Product}
+use Rattle.program_run.specs.Program.{program}
+use Rattle.run_profile.specs.Attribution.{sample_path}
+use Rattle.program_run.specs.Samples.{within_frames}
+use Rattle.program_run.specs.Scopes.{program_scopes}
 use Rattle.hpc_top.specs.commands.Merge.{KeptRun, all_tables, another_program, first_events, harts_of_runs, measurement_at, measurements_from, merge_product, merged_runs, mixed_periods, of_one_program, of_same_events, runs_pass, same_event, same_events, within_limits}
 use Rattle.hpc_top.specs.commands.Prof.{attributed_code, is_of_program}
-use Rattle.hpc_top.proofs.Faults.{from_faulted}
+use Rattle.command_line.proofs.Faults.{from_faulted}
 use Rattle.hpc_laws.proofs.FlatTables.{DealtLaw, count_both, count_filtered, count_mapped, flat, table_flat}
 use Rattle.hpc_top.proofs.KeptRuns.{HasEvents, IsKept, all_measured, all_pass, counts_within, frames_both, runs_columns_are, same_many, samples_both}
-use Rattle.hpc_top.proofs.Products.{TablesAlike, attributed_as, by_scopes}
+use Rattle.run_profile.proofs.Products.{TablesAlike, attributed_as, by_scopes}
 use Rattle.hpc_laws.proofs.StoredRuns.{kept_all, limits_are, same_events_self}
 use Rattle.hpc_laws.proofs.StoredSamples.{MeasuredLaws, few_scopes}
-use Rattle.hpc_top.proofs.Tables.{BelowLaw}
+use Rattle.run_profile.proofs.Tables.{BelowLaw}
 
 -- ---- exchanges of neighbours
 

@@ -16,8 +16,8 @@ use Rattle.prof_bytes.specs.Numerals.{decimal_in, decimal_value, is_decimal}
 use Rattle.scope_types.specs.Limits.{most_harts}
 use Rattle.rv_run.specs.Schedule.{NumberedLine, Scheduled, slices_before, entries, harts_in, harts_word, lines, most_instructions, numbered_lines, on_line, schedule_in, schedule_of, slice_by, slice_cut, slice_in, slices_of}
 use Rattle.command_line.specs.declared.status.InputFault.TheVariants.{Schedule, Program}
-use Rattle.hpc_top.specs.Program.{program, scheduled}
-use Rattle.hpc_top.proofs.Faults.{from_faulted}
+use Rattle.program_run.specs.Program.{program, scheduled}
+use Rattle.command_line.proofs.Faults.{from_faulted}
 use Rattle.prof_bytes.proofs.Outcomes.{bind_ok, ok_same}
 use Rattle.hpc_laws.proofs.LowImages.{was_checked}
 

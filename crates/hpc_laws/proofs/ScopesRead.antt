@@ -12,11 +12,11 @@ use Rattle.dwarf_line.specs.Lines.{lines_at}
 use Rattle.scope_find.specs.Found.{ProgramScopes}
 use Rattle.hpc_laws.proofs.SmallNumbers.{AreScopesOf}
 use Rattle.command_line.specs.declared.status.InputFault.TheVariants.{Entries, Lines, Program, Structure}
-use Rattle.hpc_top.specs.Faulted.{faulted}
-use Rattle.hpc_top.specs.Program.{program}
-use Rattle.hpc_top.specs.Scopes.{debug_entries, debug_sections, debug_texts, line_tables, program_scopes, table_offsets}
-use Rattle.hpc_top.specs.Verdict.{program_limit}
-use Rattle.hpc_top.proofs.Faults.{from_faulted}
+use Rattle.command_line.specs.Faulted.{faulted}
+use Rattle.program_run.specs.Program.{program}
+use Rattle.program_run.specs.Scopes.{debug_entries, debug_sections, debug_texts, line_tables, program_scopes, table_offsets}
+use Rattle.command_line.specs.Kind.{program_limit}
+use Rattle.command_line.proofs.Faults.{from_faulted}
 use Rattle.hpc_laws.proofs.Scheduled.{program_loaded}
 
 -- a section has no more bytes than the file

@@ -20,18 +20,18 @@ use Rattle.command_line.specs.declared.status.InputFault.{InputFault}
 use Rattle.command_line.specs.declared.status.InputFault.TheVariants.{Measurement, Merging, TooManyFrames, TooManySamples, WrongProgram}
 use Rattle.command_line.specs.declared.status.MergeFault.TheVariants as merge_faults
 use Rattle.hpc_laws.specs.Apart.{MergeOfOne, OneIsProf}
-use Rattle.hpc_top.specs.Attribution.{attributed, attribution_of}
+use Rattle.run_profile.specs.Attribution.{attributed, attribution_of}
 use Rattle.hpc_laws.specs.Databases.{IsDatabaseOf, MergesStoreDatabases}
-use Rattle.hpc_top.specs.Faulted.{faulted}
-use Rattle.hpc_top.specs.declared.product.Product.{Product}
-use Rattle.hpc_top.specs.Program.{program}
-use Rattle.hpc_top.specs.Samples.{within_counts, within_frames}
-use Rattle.hpc_top.specs.Scopes.{program_scopes}
+use Rattle.command_line.specs.Faulted.{faulted}
+use Rattle.command_line.specs.declared.product.Product.{Product}
+use Rattle.program_run.specs.Program.{program}
+use Rattle.program_run.specs.Samples.{within_counts, within_frames}
+use Rattle.program_run.specs.Scopes.{program_scopes}
 use Rattle.hpc_top.specs.commands.Merge.{KeptRun, all_tables, another_program, first_events, harts_of_runs, measurement_at, measurements_from, merge_product, merged_runs, mixed_periods, of_one_program, of_same_events, same_event, same_events, within_limits}
 use Rattle.hpc_top.specs.commands.Prof.{attributed_code, is_of_program, measurement, of_program, prof_product}
 use Rattle.hpc_laws.proofs.Apart.{same_number}
-use Rattle.hpc_top.proofs.Collecting.{at_most, tested_ok}
-use Rattle.hpc_top.proofs.Faults.{from_faulted}
+use Rattle.program_run.proofs.Collecting.{at_most, tested_ok}
+use Rattle.command_line.proofs.Faults.{from_faulted}
 use Rattle.hpc_top.proofs.KeptRuns.{IsKept, all_measured, counts_within, first_are, kept_runs, runs_columns_are}
 use Rattle.hpc_laws.proofs.ScopesRead.{scopes_read}
 use Rattle.hpc_laws.proofs.SmallNumbers.{AreScopesOf}

@@ -34,30 +34,31 @@ use Rattle.command_line.specs.Words.{most_period}
 use Rattle.command_line.specs.declared.request.ViewTable.{ViewTable}
 use Rattle.command_line.specs.declared.status.InputFault.{InputFault}
 use Rattle.command_line.specs.declared.status.InputFault.TheVariants.{Database, Measurement, WrongProgram}
-use Rattle.hpc_top.specs.Attribution.{Attributed, attributed, attribution_of}
+use Rattle.run_profile.specs.Attribution.{Attributed, attributed, attribution_of}
 use Rattle.hpc_laws.specs.Databases.{IsDatabaseOf, ProfilesStoreDatabases, ProfsStoreDatabases}
-use Rattle.hpc_top.specs.Faulted.{faulted}
-use Rattle.hpc_top.specs.Measured.{Measured}
-use Rattle.hpc_top.specs.declared.product.Product.{Product}
-use Rattle.hpc_top.specs.Program.{program}
-use Rattle.hpc_top.specs.Samples.{sample_path}
-use Rattle.hpc_top.specs.private.Merging.{AreRuns}
-use Rattle.hpc_top.specs.Scopes.{program_scopes}
+use Rattle.command_line.specs.Faulted.{faulted}
+use Rattle.program_run.specs.Measured.{Measured}
+use Rattle.command_line.specs.declared.product.Product.{Product}
+use Rattle.program_run.specs.Program.{program}
+use Rattle.run_profile.specs.Attribution.{sample_path}
+use Rattle.run_profile.specs.Merging.{AreRuns}
+use Rattle.program_run.specs.Scopes.{program_scopes}
 use Rattle.hpc_top.specs.commands.Prof.{attributed_code, is_of_program, measurement, of_program, prof_product}
 use Rattle.hpc_top.specs.commands.Profile.{product_of, profile_of, profiled_of}
 use Rattle.prof_stats.specs.StatsTable.{table_of_paths as summaries_of_paths}
 use Rattle.tree_types.specs.declared.content.Kind.{Kind}
-use Rattle.hpc_top.specs.commands.Stats.{stats_product}
-use Rattle.hpc_top.specs.commands.View.{shown_at, table_of_paths, view_product}
-use Rattle.hpc_top.proofs.Addresses.{OfInstructions, PathsHaveFrames, PathsHaveWords}
+use Rattle.run_profile.specs.commands.Stats.{stats_product}
+use Rattle.run_profile.specs.commands.View.{shown_at, table_of_paths, view_product}
+use Rattle.program_run.proofs.Addresses.{OfInstructions, PathsHaveFrames, PathsHaveWords}
 use Rattle.hpc_laws.proofs.Apart.{Parts, SamplesAlike, parts, run_parts}
-use Rattle.hpc_top.proofs.Collecting.{at_most}
-use Rattle.hpc_top.proofs.Faults.{from_faulted}
+use Rattle.program_run.proofs.Collecting.{at_most}
+use Rattle.command_line.proofs.Faults.{from_faulted}
 use Rattle.hpc_laws.proofs.FoundNumbers.{found_numbers, names_short}
 use Rattle.hpc_laws.proofs.FewNodes.{NodesAlike, NodesFew, few_nodes}
 use Rattle.hpc_laws.proofs.PathNumbers.{path_small}
-use Rattle.hpc_top.proofs.Products.{attributed_as, scopes_decide}
-use Rattle.hpc_top.proofs.FewEvents.{one_of_runs, own_columns}
+use Rattle.run_profile.proofs.Products.{attributed_as, scopes_decide}
+use Rattle.run_profile.proofs.FewRuns.{one_of_runs}
+use Rattle.program_run.proofs.RunColumns.{own_columns}
 use Rattle.hpc_laws.proofs.Ran.{AreTaken, RunParts, events_are, samples_taken}
 use Rattle.hpc_laws.proofs.ScopesRead.{scopes_read}
 

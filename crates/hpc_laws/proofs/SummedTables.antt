@@ -20,10 +20,10 @@ use Rattle.tree_types.specs.Naming.{Naming}
 use Rattle.tree_types.specs.Nodes.{nodes, no_parent}
 use Rattle.tree_types.specs.OfContent.{content_of_event}
 use Rattle.command_line.specs.declared.status.InputFault.TheVariants.{Database}
-use Rattle.hpc_top.specs.Faulted.{faulted}
-use Rattle.hpc_top.specs.commands.Stats.{stats_product}
-use Rattle.hpc_top.specs.commands.View.{place_shown, shown_at}
-use Rattle.hpc_top.proofs.Tables.{BelowLaw, NodesLaw, PartLaw, ReadLaw, SomeLaw, shown_same, shown_within, some_period, some_scopes}
+use Rattle.command_line.specs.Faulted.{faulted}
+use Rattle.run_profile.specs.commands.Stats.{stats_product}
+use Rattle.run_profile.specs.commands.View.{place_shown, shown_at}
+use Rattle.run_profile.proofs.Tables.{BelowLaw, NodesLaw, PartLaw, ReadLaw, SomeLaw, shown_same, shown_within, some_period, some_scopes}
 
 -- what the law of summaries says
 abbrev pub SummedLaw : Type 0

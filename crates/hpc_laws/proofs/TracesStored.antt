@@ -29,22 +29,22 @@ use Rattle.trace_lines.specs.Traces.{HasAddress, HartTrace, IsStorable, IsStorab
 use Rattle.command_line.specs.Words.{most_period}
 use Rattle.command_line.specs.declared.status.InputFault.{InputFault}
 use Rattle.command_line.specs.declared.status.InputFault.TheVariants.{Program, Trace}
-use Rattle.hpc_top.specs.Faulted.{faulted}
-use Rattle.hpc_top.specs.Measured.{Measured, lines_of, measured}
-use Rattle.hpc_top.specs.declared.product.Product.{Product}
-use Rattle.hpc_top.specs.Program.{frame_information, is_same_program, program, scheduled, wrong_program}
-use Rattle.hpc_top.specs.Samples.{run_columns, sampled}
-use Rattle.hpc_top.specs.Scopes.{program_scopes}
+use Rattle.command_line.specs.Faulted.{faulted}
+use Rattle.program_run.specs.Measured.{Measured, lines_of, measured}
+use Rattle.command_line.specs.declared.product.Product.{Product}
+use Rattle.program_run.specs.Program.{frame_information, is_same_program, program, scheduled, wrong_program}
+use Rattle.program_run.specs.Samples.{run_columns, sampled}
+use Rattle.program_run.specs.Scopes.{program_scopes}
 use Rattle.hpc_laws.specs.TracesOfRuns.{TraceRuns, TracesStoreRuns, text_or}
-use Rattle.hpc_top.specs.Verdict.{program_limit}
-use Rattle.hpc_top.specs.commands.Run.{measurement_of, run_product}
-use Rattle.hpc_top.specs.commands.Timeline.{timed_code, timeline_product, trace_of_program, trace_read}
-use Rattle.hpc_top.specs.commands.Trace.{hart_traced, trace_of, trace_product, traced_of}
-use Rattle.hpc_top.proofs.Addresses.{IsOf, OfInstructions, PathsHaveFrames, PathsHaveWords, low_first, slices_of}
-use Rattle.hpc_top.proofs.HartSamples.{harts_counted, raws_counted}
+use Rattle.command_line.specs.Kind.{program_limit}
+use Rattle.program_run.specs.commands.Run.{measurement_of, run_product}
+use Rattle.program_run.specs.commands.Timeline.{timed_code, timeline_product, trace_of_program, trace_read}
+use Rattle.program_run.specs.commands.Trace.{hart_traced, trace_of, trace_product, traced_of}
+use Rattle.program_run.proofs.Addresses.{IsOf, OfInstructions, PathsHaveFrames, PathsHaveWords, low_first, slices_of}
+use Rattle.program_run.proofs.HartSamples.{harts_counted, raws_counted}
 use Rattle.hpc_laws.proofs.Ran.{AreTaken, IsOther, RunParts, few_are, measured_few, measured_final, other_faulted, other_scopes, other_then, samples_taken}
 use Rattle.hpc_laws.proofs.Scheduled.{entry_low, program_loaded, scheduled_own}
-use Rattle.hpc_top.proofs.TracedRuns.{RetiredCounted, first_long, hart_counted, own_columns}
+use Rattle.program_run.proofs.TracedRuns.{RetiredCounted, first_long, hart_counted, own_columns}
 
 -- ---- what is put
 

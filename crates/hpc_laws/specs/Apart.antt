@@ -5,13 +5,13 @@ use Rattle.prof_bytes.specs.Number.{IsBytes}
 use Rattle.elf_image.specs.Image.{ProgramImage}
 use Rattle.scope_types.specs.declared.event.EventPeriod.{EventPeriod}
 use Rattle.scope_types.specs.Events.{AreEvents, is_retired_alone}
-use Rattle.hpc_top.specs.Measured.{Measured, lines_of}
-use Rattle.hpc_top.specs.declared.product.Product.{Product}
-use Rattle.hpc_top.specs.commands.Run.{measurement_of, run_product}
+use Rattle.program_run.specs.Measured.{Measured, lines_of}
+use Rattle.command_line.specs.declared.product.Product.{Product}
+use Rattle.program_run.specs.commands.Run.{measurement_of, run_product}
 use Rattle.hpc_top.specs.commands.Prof.{prof_product}
 use Rattle.hpc_top.specs.commands.Profile.{profile_of}
 use Rattle.hpc_top.specs.commands.Merge.{merge_product}
-use Rattle.hpc_top.specs.Verdict.{program_limit}
+use Rattle.command_line.specs.Kind.{program_limit}
 use Rattle.command_line.specs.Words.{most_period}
 
 -- `run` is accepted on the profile's files, and `prof` on the program and what `run` stores. It stores the profile's

@@ -17,19 +17,19 @@ use Rattle.tree_types.specs.declared.content.Kind.{Kind}
 use Rattle.command_line.specs.Words.{most_period}
 use Rattle.command_line.specs.declared.request.ViewTable.{ViewTable}
 use Rattle.command_line.specs.declared.status.InputFault.TheVariants.{Measurement}
-use Rattle.hpc_top.specs.Attribution.{Attributed, attributed, call_paths_of, event_content}
-use Rattle.hpc_top.specs.Measured.{Measured}
-use Rattle.hpc_top.specs.declared.product.Product.{Product}
-use Rattle.hpc_top.specs.Program.{program}
-use Rattle.hpc_top.specs.Scopes.{program_scopes}
-use Rattle.hpc_top.specs.Verdict.{program_limit}
+use Rattle.run_profile.specs.Attribution.{Attributed, attributed, call_paths_of, event_content}
+use Rattle.program_run.specs.Measured.{Measured}
+use Rattle.command_line.specs.declared.product.Product.{Product}
+use Rattle.program_run.specs.Program.{program}
+use Rattle.program_run.specs.Scopes.{program_scopes}
+use Rattle.command_line.specs.Kind.{program_limit}
 use Rattle.hpc_top.specs.commands.Merge.{KeptRun, all_tables, first_events, harts_of_runs}
 use Rattle.hpc_top.specs.commands.Merge.{measurements_from, merge_product}
 use Rattle.hpc_top.specs.commands.Prof.{measurement, prof_product}
 use Rattle.hpc_top.specs.commands.Profile.{Profiled, profile_of, profiled_of}
-use Rattle.hpc_top.specs.commands.Run.{counted_in, head_of, run_product}
-use Rattle.hpc_top.specs.commands.Stats.{stats_product}
-use Rattle.hpc_top.specs.commands.View.{database, shown_at, table_of_paths, view_product}
+use Rattle.program_run.specs.commands.Run.{counted_in, head_of, run_product}
+use Rattle.run_profile.specs.commands.Stats.{stats_product}
+use Rattle.run_profile.specs.commands.View.{database, shown_at, table_of_paths, view_product}
 
 -- ---- databases
 

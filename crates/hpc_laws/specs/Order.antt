@@ -1,7 +1,7 @@
 -- The order of measurements: it numbers the columns, and the tables don't depend on it.
 use Rattle.std.specs.Prelude.{◌≡◌, ℕ, zero, suc, List, [], ◌∷◌, All, Ok}
 use Rattle.prof_bytes.specs.Number.{IsBytes}
-use Rattle.hpc_top.specs.declared.product.Product.{Product}
+use Rattle.command_line.specs.declared.product.Product.{Product}
 use Rattle.hpc_top.specs.commands.Merge.{merge_product}
 
 -- the element at a place exchanged with the one after it, where both are there

@@ -9,13 +9,13 @@ use Rattle.trace_lines.specs.Reading.{trace_in}
 use Rattle.command_line.specs.Words.{most_period}
 use Rattle.command_line.specs.declared.status.InputFault.{InputFault}
 use Rattle.command_line.specs.declared.status.InputFault.TheVariants.{Trace}
-use Rattle.hpc_top.specs.Measured.{Measured, measured}
-use Rattle.hpc_top.specs.declared.product.Product.{Product}
-use Rattle.hpc_top.specs.Program.{frame_information, program, scheduled}
-use Rattle.hpc_top.specs.Verdict.{program_limit}
-use Rattle.hpc_top.specs.commands.Run.{run_product}
-use Rattle.hpc_top.specs.commands.Timeline.{timeline_product}
-use Rattle.hpc_top.specs.commands.Trace.{trace_of, trace_product}
+use Rattle.program_run.specs.Measured.{Measured, measured}
+use Rattle.command_line.specs.declared.product.Product.{Product}
+use Rattle.program_run.specs.Program.{frame_information, program, scheduled}
+use Rattle.command_line.specs.Kind.{program_limit}
+use Rattle.program_run.specs.commands.Run.{run_product}
+use Rattle.program_run.specs.commands.Timeline.{timeline_product}
+use Rattle.program_run.specs.commands.Trace.{trace_of, trace_product}
 
 -- what is stored is read as the trace of the run, which has for each hart the instructions that it retired and the raw
 -- path of each of its samples; and `timeline` of it doesn't refuse it as a trace, whatever the program

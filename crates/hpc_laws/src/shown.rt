@@ -11,7 +11,7 @@ ghost use Rattle.tree_types.specs.Database.{event_content_of, period_at};
 ghost use Rattle.tree_types.specs.Naming.{Naming};
 ghost use Rattle.tree_types.specs.Nodes.{nodes, no_parent};
 ghost use Rattle.tree_types.specs.OfContent.{content_of_event};
-ghost use Rattle.hpc_top.specs.commands.View.{shown_at, table_of_paths, table_of, view_product};
+ghost use Rattle.run_profile.specs.commands.View.{shown_at, table_of_paths, table_of, view_product};
 ghost use Rattle.command_line.specs.declared.request.ViewTable.{ViewTable};
 
 use prof_db::event_call_paths_are_stored;

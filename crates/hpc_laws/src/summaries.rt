@@ -10,8 +10,8 @@ ghost use Rattle.scope_types.specs.declared.event.EventPeriod.{EventPeriod};
 ghost use Rattle.tree_types.specs.Database.{event_content_of, period_at};
 ghost use Rattle.tree_types.specs.Naming.{Naming};
 ghost use Rattle.tree_types.specs.declared.content.Kind.{Kind};
-ghost use Rattle.hpc_top.specs.commands.Stats.{stats_product};
-ghost use Rattle.hpc_top.specs.commands.View.{shown_at};
+ghost use Rattle.run_profile.specs.commands.Stats.{stats_product};
+ghost use Rattle.run_profile.specs.commands.View.{shown_at};
 
 use prof_db::event_call_paths_are_stored;
 use prof_stats::stats_are_of_call_paths;

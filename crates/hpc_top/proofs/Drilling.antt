@@ -13,16 +13,17 @@ use Rattle.tree_types.specs.Naming.{Naming}
 use Rattle.tree_types.specs.Nodes.{nodes}
 use Rattle.command_line.specs.declared.status.InputFault.{InputFault}
 use Rattle.hpc_top.specs.declared.profiling.ProfiledRun.{ProfiledRun}
-use Rattle.hpc_top.specs.Attribution.{Attributed, attribution_of, call_paths_of, event_content}
-use Rattle.hpc_top.specs.Measured.{Measured}
-use Rattle.hpc_top.specs.Merged.{Merging}
-use Rattle.hpc_top.specs.Product.{Product, only_text}
+use Rattle.run_profile.specs.Attribution.{Attributed, attribution_of, call_paths_of, event_content}
+use Rattle.program_run.specs.Measured.{Measured}
+use Rattle.run_profile.specs.Merging.{Merging}
+use Rattle.command_line.specs.declared.product.Product.{Product}
+use Rattle.command_line.specs.Product.{only_text}
 use Rattle.hpc_top.specs.commands.Drill.{drill_text}
 use Rattle.hpc_top.specs.commands.Profile.{Profiled}
-use Rattle.hpc_top.specs.private.Counting.{IsCount}
+use Rattle.program_run.specs.Counting.{IsCount}
 use Rattle.hpc_top.specs.private.Products.{drill_or}
 use Rattle.hpc_top.specs.private.Profiling.{IsProfileOf, Profiles}
-use Rattle.hpc_top.proofs.Products.{ContentsAlike, EventsAlike, TablesAlike, all_content}
+use Rattle.run_profile.proofs.Products.{ContentsAlike, EventsAlike, TablesAlike, all_content}
 
 nodes_long : (events : List EventPeriod) (runs : List ℕ) (naming : Naming) (ps : List ColumnPath) (content : EventContent) → content ≡ event_content_of events runs naming ps → length content.nodes ≡ length (nodes ps)
 unfolding event_content_of

@@ -21,7 +21,8 @@ use Rattle.command_line.specs.Request.{Request}
 use Rattle.hpc_top.specs.Verdict.{limited_bytes, contents, verdict}
 use Rattle.hpc_top.specs.commands.{makes}
 use Rattle.hpc_top.specs.Outcome.{are_known, fetches_of, with_fetches, SomeFetched, AllFetched, FetchedUpTo, FetchedFor}
-use Rattle.hpc_top.specs.private.Steps.{FetchStops, StopsEarly, AreWithin}
+use Rattle.hpc_top.specs.private.Steps.{FetchStops, StopsEarly}
+use Rattle.command_line.specs.Kind.{AreWithin}
 use Rattle.hpc_top.specs.private.Stop.{IsStopOf}
 
 -- a file more

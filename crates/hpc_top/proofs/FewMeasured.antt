@@ -4,7 +4,7 @@ use Rattle.std.proofs.lemmas.List.{length-replicate, length-take-le}
 use Rattle.scope_types.specs.Limits.{most_runs}
 use Rattle.command_line.specs.declared.kind.FileKind.{FileKind}
 use Rattle.command_line.specs.declared.kind.FileKind.TheVariants as kinds
-use Rattle.hpc_top.specs.private.Steps.{AreWithin}
+use Rattle.command_line.specs.Kind.{AreWithin}
 
 within_long : (texts : List (List ℕ)) (files : List FileKind) → AreWithin texts files → length texts ≡ length files
 within_long [] [] within = refl

@@ -9,7 +9,7 @@ use Rattle.command_line.specs.declared.status.InputFault.{InputFault}
 use Rattle.command_line.specs.declared.status.Status.{Status}
 use Rattle.command_line.specs.declared.status.Status.TheVariants.{Done, Usage, Input, Device, Memory}
 use Rattle.command_line.specs.declared.status.Place.TheVariants.{Read, Store, Print}
-use Rattle.hpc_top.specs.Product.{Product}
+use Rattle.command_line.specs.declared.product.Product.{Product}
 use Rattle.command_line.specs.Request.{Request}
 use Rattle.command_line.specs.Words.{drill_request}
 use Rattle.hpc_top.specs.Verdict.{verdict}

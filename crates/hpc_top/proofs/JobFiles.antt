@@ -8,13 +8,13 @@ use Rattle.rv_run.specs.Schedule.{Scheduled}
 use Rattle.scope_find.specs.Found.{ProgramScopes}
 use Rattle.scope_types.specs.declared.event.EventPeriod.{EventPeriod}
 use Rattle.command_line.specs.declared.status.InputFault.{InputFault}
-use Rattle.hpc_top.specs.Product.{Product}
-use Rattle.hpc_top.specs.Program.{frame_information, program, scheduled}
-use Rattle.hpc_top.specs.Scopes.{program_scopes}
+use Rattle.command_line.specs.declared.product.Product.{Product}
+use Rattle.program_run.specs.Program.{frame_information, program, scheduled}
+use Rattle.program_run.specs.Scopes.{program_scopes}
 use Rattle.hpc_top.specs.commands.Profile.{Profiled, product_of, profile_of, profiled_of, profiled_program}
 use Rattle.hpc_top.specs.private.LiveRuns.{product_or}
 use Rattle.hpc_top.specs.private.Profiling.{JobFiles, files_from, files_of, profiled_files}
-use Rattle.hpc_top.proofs.Faults.{fails_next}
+use Rattle.command_line.proofs.Faults.{fails_next}
 use Rattle.hpc_top.proofs.Products.{refused_product}
 
 module _ (input : List ℕ) (events : List EventPeriod) where

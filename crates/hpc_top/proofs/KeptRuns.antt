@@ -23,11 +23,11 @@ use Rattle.scope_types.specs.Events.{AreEvents}
 use Rattle.scope_types.specs.Limits.{most_frames_in_all, most_harts, most_runs, most_samples}
 use Rattle.command_line.specs.declared.status.InputFault.{InputFault}
 use Rattle.command_line.specs.declared.status.InputFault.TheVariants.{TooManyFrames, TooManySamples}
-use Rattle.hpc_top.specs.Samples.{within_counts, within_frames}
+use Rattle.program_run.specs.Samples.{within_counts, within_frames}
 use Rattle.hpc_top.specs.commands.Merge.{KeptRun, all_tables, first_events, harts_of_runs, measurement_at, measurements_from, mixed_periods, of_same_events, runs_pass, same_event, same_events}
-use Rattle.hpc_top.specs.private.Merging.{AreRuns}
-use Rattle.hpc_top.proofs.Collecting.{at_most, tested_ok}
-use Rattle.hpc_top.proofs.FewEvents.{few_events}
+use Rattle.run_profile.specs.Merging.{AreRuns}
+use Rattle.program_run.proofs.Collecting.{at_most, tested_ok}
+use Rattle.run_report.proofs.FewEvents.{few_events}
 
 -- a run that is as a measurement may be
 abbrev pub IsKept : KeptRun → Type 0

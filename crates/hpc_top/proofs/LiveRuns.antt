@@ -35,26 +35,27 @@ use Rattle.live_merge.specs.Live.{AnswersLive, IsWhole, coming, within_limits}
 use Rattle.live_merge.specs.Sum.{HasPaths}
 use Rattle.command_line.specs.declared.status.InputFault.{InputFault}
 use Rattle.command_line.specs.declared.status.InputFault.TheVariants.{TooManySamples, TooManyFrames, TooManyScopes}
-use Rattle.hpc_top.specs.declared.counting.CountedRun.{CountedRun}
+use Rattle.program_run.specs.declared.counting.CountedRun.{CountedRun}
 use Rattle.hpc_top.specs.declared.live_runs.LiveRun.{LiveRun}
-use Rattle.hpc_top.specs.Attribution.{Attributed, call_paths_of, event_content}
-use Rattle.hpc_top.specs.Faulted.{faulted}
-use Rattle.hpc_top.specs.Measured.{Measured, lines_of, measured_run}
-use Rattle.hpc_top.specs.Product.{Product}
-use Rattle.hpc_top.specs.Samples.{few_samples, run_columns, within_scopes}
+use Rattle.run_profile.specs.Attribution.{Attributed, call_paths_of, event_content}
+use Rattle.command_line.specs.Faulted.{faulted}
+use Rattle.program_run.specs.Measured.{Measured, lines_of, measured_run}
+use Rattle.command_line.specs.declared.product.Product.{Product}
+use Rattle.program_run.specs.Samples.{few_samples, run_columns}
+use Rattle.run_profile.specs.Attribution.{within_scopes}
 use Rattle.hpc_top.specs.commands.Profile.{Profiled, product_of, profiled}
-use Rattle.hpc_top.specs.private.Collecting.{IsStart}
-use Rattle.hpc_top.specs.private.Counting.{IsCount}
+use Rattle.program_run.specs.Collecting.{IsStart}
+use Rattle.program_run.specs.Counting.{IsCount}
 use Rattle.hpc_top.specs.private.LiveRuns.{IsAnswer, IsLiveRun, RunsLive, live_fault, measured_live, product_or, run_attributed, samples_attributed}
-use Rattle.hpc_top.specs.private.Merging.{HasTables, IsTreeOf}
+use Rattle.run_profile.specs.Merging.{HasTables, IsTreeOf}
 use Rattle.hpc_top.specs.private.Profiling.{IsReportOf}
-use Rattle.hpc_top.proofs.Collecting.{at_most, tested}
-use Rattle.hpc_top.proofs.Contents.{long_alike}
-use Rattle.hpc_top.proofs.Counted.{all_to_come}
-use Rattle.hpc_top.proofs.EventTables.{tables_are}
-use Rattle.hpc_top.proofs.Faults.{fails_next}
-use Rattle.hpc_top.proofs.FewEvents.{own_columns}
-use Rattle.hpc_top.proofs.Products.{tables_of}
+use Rattle.program_run.proofs.Collecting.{at_most, tested}
+use Rattle.run_profile.proofs.Contents.{long_alike}
+use Rattle.program_run.proofs.Counted.{all_to_come}
+use Rattle.run_profile.proofs.EventTables.{tables_are}
+use Rattle.command_line.proofs.Faults.{fails_next}
+use Rattle.program_run.proofs.RunColumns.{own_columns}
+use Rattle.run_profile.proofs.Products.{tables_of}
 
 -- ---- the limits
 

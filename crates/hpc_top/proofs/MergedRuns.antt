@@ -11,12 +11,12 @@ use Rattle.scope_types.specs.Distinct.{frames_in, samples_in}
 use Rattle.scope_types.specs.Limits.{most_frames_in_all, most_samples}
 use Rattle.command_line.specs.declared.status.InputFault.{InputFault}
 use Rattle.command_line.specs.declared.status.InputFault.TheVariants.{TooManyFrames}
-use Rattle.hpc_top.specs.Samples.{within_counts, within_frames}
+use Rattle.program_run.specs.Samples.{within_counts, within_frames}
 use Rattle.hpc_top.specs.commands.Merge.{KeptRun, all_tables, first_events, harts_of_runs, of_same_events, within_limits}
 use Rattle.hpc_top.specs.commands.Prof.{attributed_code}
 use Rattle.hpc_top.specs.private.Products.{limited_or}
-use Rattle.hpc_top.proofs.Collecting.{at_most, tested_ok}
-use Rattle.hpc_top.proofs.Faults.{fails_next}
+use Rattle.program_run.proofs.Collecting.{at_most, tested_ok}
+use Rattle.command_line.proofs.Faults.{fails_next}
 use Rattle.hpc_top.proofs.KeptRuns.{IsKept, all_measured, counts_within, runs_columns_are}
 
 pub refused_counts : (image : ProgramImage) (runs : List KeptRun) (fail : Fail InputFault) → FailsBy fail (within_counts (all_tables runs)) → FailsBy fail (limited_or image runs)

@@ -8,7 +8,7 @@ use Rattle.command_line.specs.declared.status.Status.TheVariants as answers
 use Rattle.hpc_top.specs.declared.status.Stop.{Stop}
 use Rattle.hpc_top.specs.declared.status.Stop.TheVariants.{Input, Device, Memory}
 use Rattle.command_line.specs.declared.status.Place.TheVariants.{Read, Store, Print}
-use Rattle.hpc_top.specs.Product.{Product}
+use Rattle.command_line.specs.declared.product.Product.{Product}
 use Rattle.command_line.specs.Kind.{Wanted}
 use Rattle.command_line.specs.Request.{Request}
 use Rattle.hpc_top.specs.Verdict.{verdict}

@@ -9,7 +9,7 @@ use Rattle.command_line.specs.Request.{Request}
 use Rattle.command_line.specs.Words.{drill_request}
 use Rattle.hpc_top.specs.Verdict.{verdict}
 use Rattle.hpc_top.specs.Outcome.{Call, Makes, Finished, are_known}
-use Rattle.hpc_top.specs.Product.{Product}
+use Rattle.command_line.specs.declared.product.Product.{Product}
 use Rattle.hpc_top.specs.commands.Drill.{drill_product}
 
 -- the answers to an invalid command line: `Usage`, or `Memory`

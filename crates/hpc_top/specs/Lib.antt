@@ -1,10 +1,3 @@
-pub mod Faulted
-pub mod Program
-pub mod Scopes
-pub mod Samples
-pub mod Measured
-pub mod Product
-pub mod Attribution
 pub mod commands
 pub mod Verdict
 pub mod Job

@@ -1,40 +1,19 @@
 -- What `profile` makes of a run by a crew, which need not merge all samples.
-use Rattle.std.specs.Prelude.{◌≡◌, ℕ, Bool, IsTrue, length, Result, Ok, Err}
+use Rattle.std.specs.Prelude.{◌≡◌, IsTrue, Result, Ok, Err}
 use Rattle.prof_bytes.specs.declared.fail.Fail.{Fail}
 use Rattle.prof_bytes.specs.Outcome.{FailsBy}
-use Rattle.scope_find.specs.Found.{found_at}
-use Rattle.scope_types.specs.Columns.{columns_of}
-use Rattle.scope_types.specs.Distinct.{distinct}
-use Rattle.scope_types.specs.Expansion.{call_path}
-use Rattle.thread_cct.specs.Plan.{expanded, plan_of}
 use Rattle.stripe_table.specs.Ends.{named_paths}
 use Rattle.stripe_table.specs.Limits.{Chunks}
-use Rattle.merge_crew.specs.declared.merge.Crew.{Crew}
 use Rattle.merge_crew.specs.Merged.{IsOfPlan, IsWhole}
 use Rattle.command_line.specs.declared.status.InputFault.{InputFault}
 use Rattle.hpc_top.specs.declared.status.Made.{Made}
 use Rattle.hpc_top.specs.Made.{product_in}
-use Rattle.hpc_top.specs.Attribution.{Attributed}
+use Rattle.run_profile.specs.Merging.{Merging, sample_plan}
 use Rattle.hpc_top.specs.commands.Profile.{Profiled, product_from, product_of}
-
--- the plan of samples: their distinct raw paths in chunks, expanded
-abbrev pub sample_plan : Attributed → Chunks
-sample_plan a =
-    expanded (plan_of (distinct (columns_of (length a.events) a.runs) a.samples)) (call_path (found_at a.scopes))
 
 -- the plan of a run is that of its samples
 abbrev pub run_plan : Profiled → Chunks
 run_plan p = sample_plan p.attributed
-
--- how a run is merged: which crews may come, whether they merge all, and by how many workers
-pub record Merging : Type 1 where
-  pub gives : Crew → Type 0
-  pub whole : Bool
-  pub workers : ℕ
-
--- crews that may come, whether they merge all, and the number of workers
-abbrev pub merging : (Crew → Type 0) → Bool → ℕ → Merging
-merging gives whole workers = record { gives = gives; whole = whole; workers = workers }
 
 -- what is made of a run: its crew is one that may come, its stripes are those of the run's plan and fit it, and
 -- database and tables are those of the pieces that the stripes name. Where crews merge all, the stripes name every

@@ -10,7 +10,7 @@ use Rattle.command_line.specs.declared.status.InputFault.TheVariants.{TooLong}
 use Rattle.command_line.specs.declared.status.Status.{Status}
 use Rattle.command_line.specs.declared.status.Status.TheVariants.{Done, Usage, Input, Device, Memory}
 use Rattle.command_line.specs.declared.status.Place.TheVariants.{Read, Store, Print}
-use Rattle.hpc_top.specs.Product.{Product}
+use Rattle.command_line.specs.declared.product.Product.{Product}
 use Rattle.command_line.specs.Kind.{Wanted, file_limit}
 use Rattle.command_line.specs.Request.{Request}
 use Rattle.hpc_top.specs.Verdict.{contents, verdict}

@@ -2,23 +2,14 @@
 use Rattle.std.specs.Prelude.{ℕ, List, [], ◌∷◌, length, Result, Ok, Err, if◌then◌else◌, nat_lt}
 use Rattle.prof_bytes.specs.Outcome.{◌>>=◌}
 use Rattle.prof_devices.specs.Files.{Files, file_bytes}
-use Rattle.command_line.specs.declared.kind.FileKind.TheVariants as kinds
 use Rattle.command_line.specs.declared.status.InputFault.{InputFault}
 use Rattle.command_line.specs.declared.status.InputFault.TheVariants.{TooLong}
 use Rattle.command_line.specs.Kind.{Wanted, file_limit}
 use Rattle.command_line.specs.Request.{Request}
-use Rattle.hpc_top.specs.Product.{Product}
+use Rattle.command_line.specs.declared.product.Product.{Product}
 use Rattle.hpc_top.specs.commands.{makes}
 
 -- ---- the files
-
--- the most bytes of a program
-abbrev pub program_limit : ℕ
-program_limit = file_limit kinds.Program
-
--- the most bytes of a schedule
-abbrev pub schedule_limit : ℕ
-schedule_limit = file_limit kinds.Schedule
 
 -- the bytes of a file, unless it is too long
 abbrev pub limited_bytes : Files → Wanted → Result (List ℕ) InputFault

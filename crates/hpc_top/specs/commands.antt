@@ -3,27 +3,21 @@ use Rattle.std.specs.Prelude.{ℕ, List, Result}
 use Rattle.command_line.specs.declared.request.Command.{Command}
 use Rattle.command_line.specs.declared.request.Command.TheVariants as command
 use Rattle.command_line.specs.declared.status.InputFault.{InputFault}
-use Rattle.hpc_top.specs.Product.{Product}
+use Rattle.command_line.specs.declared.product.Product.{Product}
 use Rattle.hpc_top.specs.commands.Profile.{profile_makes}
-use Rattle.hpc_top.specs.commands.Run.{run_makes}
+use Rattle.program_run.specs.commands.Run.{run_makes}
 use Rattle.hpc_top.specs.commands.Prof.{prof_makes}
-use Rattle.hpc_top.specs.commands.Structure.{struct_makes}
-use Rattle.hpc_top.specs.commands.View.{view_makes}
+use Rattle.program_run.specs.commands.Structure.{struct_makes}
+use Rattle.run_profile.specs.commands.View.{view_makes}
 use Rattle.hpc_top.specs.commands.Drill.{drill_makes}
 use Rattle.hpc_top.specs.commands.Merge.{merge_makes}
-use Rattle.hpc_top.specs.commands.Trace.{trace_makes}
-use Rattle.hpc_top.specs.commands.Timeline.{timeline_makes}
-use Rattle.hpc_top.specs.commands.Stats.{stats_makes}
+use Rattle.program_run.specs.commands.Trace.{trace_makes}
+use Rattle.program_run.specs.commands.Timeline.{timeline_makes}
+use Rattle.run_profile.specs.commands.Stats.{stats_makes}
 pub mod Profile
-pub mod Run
 pub mod Prof
-pub mod Structure
-pub mod View
 pub mod Drill
 pub mod Merge
-pub mod Trace
-pub mod Timeline
-pub mod Stats
 
 -- what a command makes of the contents of its files, which come in the order in which they are wanted. `live` makes what
 -- `profile` makes: the length of an epoch and the number of workers have no part in it

@@ -1,25 +1,21 @@
-//! The commands, a module for each: what it makes of the contents of its files, or their first refusal.
+//! The commands: what each makes of the contents of its files, or their first refusal. Those that profile have a module
+//! each here, the others in the crates below.
 ghost use Rattle.command_line.specs.Request.{IsCommand, kinds_read};
 ghost use Rattle.prof_bytes.specs.Outcome.{Gives};
 ghost use Rattle.hpc_top.specs.commands.{makes};
-ghost use Rattle.hpc_top.specs.private.Steps.{AreWithin};
+ghost use Rattle.command_line.specs.Kind.{AreWithin};
 
 pub mod drill;
 pub mod live;
 pub mod merge;
 pub mod prof;
 pub mod profile;
-pub mod run;
-pub mod stats;
-pub mod structure;
-pub mod timeline;
-pub mod trace;
-pub mod view;
 
-use crate::product::Product;
-use command_line::{Command, InputFault};
+use command_line::{Command, InputFault, Product};
 use prof_bytes::{Fail, Text};
 use prof_devices::Gate;
+use program_run::commands::{run, structure, timeline, trace};
+use run_profile::commands::{stats, view};
 use std::thread::Threads;
 
 /// What a command makes of the contents of its files, which come in the order in which it reads them.

@@ -7,28 +7,16 @@
 #![tactic(auto)]
 
 mod attribution;
-mod both;
 mod call;
-mod collect;
 mod commands;
-mod counting;
-mod events;
 mod live_runs;
-mod merged;
 mod prepare;
-mod product;
 mod profiling;
-mod program;
-mod refusal;
 mod runs;
-mod scopes;
 mod status;
 mod steps;
-mod table;
-mod tracing;
 
 pub use call::hpc_main;
-pub use command_line::{FileKind, InputFault, MergeFault, Place, Status, out_of_memory};
+pub use command_line::{FileKind, InputFault, MergeFault, Place, Product, Status, out_of_memory};
 pub use commands::profile::{Job, profile};
-pub use product::Product;
 pub use status::Made;

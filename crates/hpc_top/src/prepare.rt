@@ -3,10 +3,9 @@ ghost use Rattle.command_line.specs.Request.{IsValid, view_request};
 ghost use Rattle.hpc_top.specs.private.Steps.{Prepares};
 
 use crate::commands::make;
-use crate::product::Product;
 use crate::status::Stop;
 use crate::steps::fetch_all;
-use command_line::Request;
+use command_line::{Product, Request};
 use prof_devices::{Gate, Shelf};
 use std::thread::Threads;
 

@@ -5,13 +5,12 @@ ghost use Rattle.measure_file.specs.Measurable.{IsEventMeasurable};
 ghost use Rattle.prof_bytes.specs.Outcome.{Gives};
 ghost use Rattle.scope_types.specs.Distinct.{samples_in};
 ghost use Rattle.scope_types.specs.Limits.{most_runs, most_samples};
-ghost use Rattle.hpc_top.specs.Samples.{within_counts, within_frames};
+ghost use Rattle.program_run.specs.Samples.{within_counts, within_frames};
 ghost use Rattle.hpc_top.specs.commands.Merge.{all_tables, first_events, harts_of_runs, measurement_at};
 ghost use Rattle.hpc_top.specs.commands.Merge.{measurements_from, of_one_program, of_same_events, same_events};
 
 use crate::commands::prof::is_of_program;
-use crate::refusal::as_input;
-use command_line::{InputFault, MergeFault};
+use command_line::{InputFault, MergeFault, as_input};
 use elf_image::Image;
 use measure_file::{EventHead, read_any};
 use prof_bytes::{Fail, Memory, Text};
@@ -22,7 +21,7 @@ use std::alloc::Global;
 use thread_cct::Ccts;
 
 /// The measurement at a place, or the first fault of its file.
-#[tactic(auto, using(crate::proofs::Faults::input_steps))]
+#[tactic(auto, using(command_line::proofs::Faults::input_steps))]
 fn measurement_at(
     alloc: Global,
     place: u32,

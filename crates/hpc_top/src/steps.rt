@@ -5,9 +5,8 @@ ghost use Rattle.hpc_top.specs.Outcome.{call_of};
 ghost use Rattle.hpc_top.specs.private.Steps.{Fetches, FetchesAll, PutsText, Delivers};
 ghost use Rattle.command_line.specs.Kind.{view_want};
 
-use crate::product::Product;
 use crate::status::Stop;
-use command_line::{InputFault, Place, Want, row_of};
+use command_line::{InputFault, Place, Product, Want, row_of};
 use prof_bytes::{Listed, Memory, Text};
 use prof_devices::{Fetch, Put, Shelf, Sink};
 use std::alloc::Global;

@@ -7,8 +7,9 @@ use Rattle.run_report.specs.Drill.{drill_lines, retired_by}
 use Rattle.scope_types.specs.Events.{retired_every}
 use Rattle.tree_types.specs.Nodes.{nodes}
 use Rattle.command_line.specs.declared.status.InputFault.{InputFault}
-use Rattle.hpc_top.specs.Attribution.{attribution_of, call_paths_of}
-use Rattle.hpc_top.specs.Product.{Product, no_product, only_text}
+use Rattle.run_profile.specs.Attribution.{attribution_of, call_paths_of}
+use Rattle.command_line.specs.declared.product.Product.{Product}
+use Rattle.command_line.specs.Product.{no_product, only_text}
 use Rattle.hpc_top.specs.commands.Profile.{Profiled, profiled_of}
 
 -- the lines of a run: its retired instructions, its samples, the nodes of their call paths, and the database of these

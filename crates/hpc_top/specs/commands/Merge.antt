@@ -14,10 +14,11 @@ use Rattle.scope_types.specs.Events.{event_number}
 use Rattle.command_line.specs.declared.status.InputFault.{InputFault}
 use Rattle.command_line.specs.declared.status.InputFault.TheVariants.{Merging}
 use Rattle.command_line.specs.declared.status.MergeFault.TheVariants as merge_faults
-use Rattle.hpc_top.specs.Faulted.{faulted}
-use Rattle.hpc_top.specs.Product.{Product, no_product}
-use Rattle.hpc_top.specs.Program.{program}
-use Rattle.hpc_top.specs.Samples.{within_counts, within_frames}
+use Rattle.command_line.specs.Faulted.{faulted}
+use Rattle.command_line.specs.declared.product.Product.{Product}
+use Rattle.command_line.specs.Product.{no_product}
+use Rattle.program_run.specs.Program.{program}
+use Rattle.program_run.specs.Samples.{within_counts, within_frames}
 use Rattle.hpc_top.specs.commands.Prof.{attributed_code, is_of_program}
 
 -- ---- the runs

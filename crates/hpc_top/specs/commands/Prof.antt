@@ -9,11 +9,12 @@ use Rattle.scope_types.specs.declared.frame.Counted.{Counted}
 use Rattle.scope_types.specs.Distinct.{each_sample}
 use Rattle.command_line.specs.declared.status.InputFault.{InputFault}
 use Rattle.command_line.specs.declared.status.InputFault.TheVariants.{Measurement}
-use Rattle.hpc_top.specs.Attribution.{attributed, attribution_of}
-use Rattle.hpc_top.specs.Faulted.{faulted}
-use Rattle.hpc_top.specs.Product.{Product, no_product}
-use Rattle.hpc_top.specs.Program.{is_same_program, program, wrong_program}
-use Rattle.hpc_top.specs.Scopes.{program_scopes}
+use Rattle.run_profile.specs.Attribution.{attributed, attribution_of}
+use Rattle.command_line.specs.Faulted.{faulted}
+use Rattle.command_line.specs.declared.product.Product.{Product}
+use Rattle.command_line.specs.Product.{no_product}
+use Rattle.program_run.specs.Program.{is_same_program, program, wrong_program}
+use Rattle.program_run.specs.Scopes.{program_scopes}
 
 -- the measurement, or the first fault of its file
 abbrev pub measurement : List ℕ → Result (EventHead × List (List Counted)) InputFault

@@ -8,11 +8,12 @@ use Rattle.scope_find.specs.Found.{ProgramScopes}
 use Rattle.scope_types.specs.declared.event.EventPeriod.{EventPeriod}
 use Rattle.scope_types.specs.CallPaths.{ColumnPath}
 use Rattle.command_line.specs.declared.status.InputFault.{InputFault}
-use Rattle.hpc_top.specs.Attribution.{Attributed, attributed, attribution_from, call_paths_of}
-use Rattle.hpc_top.specs.Measured.{Measured, lines_of, measured}
-use Rattle.hpc_top.specs.Product.{Product, no_product}
-use Rattle.hpc_top.specs.Program.{scheduled, program, frame_information}
-use Rattle.hpc_top.specs.Scopes.{program_scopes}
+use Rattle.run_profile.specs.Attribution.{Attributed, attributed, attribution_from, call_paths_of}
+use Rattle.program_run.specs.Measured.{Measured, lines_of, measured}
+use Rattle.command_line.specs.declared.product.Product.{Product}
+use Rattle.command_line.specs.Product.{no_product}
+use Rattle.program_run.specs.Program.{scheduled, program, frame_information}
+use Rattle.program_run.specs.Scopes.{program_scopes}
 
 -- ---- the run
 

@@ -12,13 +12,13 @@ use Rattle.live_merge.specs.declared.fault.LiveFault.TheVariants as limits
 use Rattle.command_line.specs.declared.status.InputFault.{InputFault}
 use Rattle.command_line.specs.declared.status.InputFault.TheVariants.{TooManySamples, TooManyFrames, TooManyScopes}
 use Rattle.hpc_top.specs.declared.live_runs.LiveRun.{LiveRun}
-use Rattle.hpc_top.specs.Attribution.{Attributed, call_paths_of}
-use Rattle.hpc_top.specs.Measured.{Measured}
-use Rattle.hpc_top.specs.Product.{Product}
-use Rattle.hpc_top.specs.Samples.{run_columns}
+use Rattle.run_profile.specs.Attribution.{Attributed, call_paths_of}
+use Rattle.program_run.specs.Measured.{Measured}
+use Rattle.command_line.specs.declared.product.Product.{Product}
+use Rattle.program_run.specs.Samples.{run_columns}
 use Rattle.hpc_top.specs.commands.Profile.{Profiled, product_of, profiled}
-use Rattle.hpc_top.specs.private.Counting.{IsCount}
-use Rattle.hpc_top.specs.private.Merging.{IsTreeOf}
+use Rattle.program_run.specs.Counting.{IsCount}
+use Rattle.run_profile.specs.Merging.{IsTreeOf}
 
 -- a limit of the run as a refusal of the command's files
 abbrev pub live_fault : LiveFault → InputFault

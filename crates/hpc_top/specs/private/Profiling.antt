@@ -11,20 +11,20 @@ use Rattle.scope_types.specs.declared.event.EventPeriod.{EventPeriod}
 use Rattle.tree_types.specs.declared.content.EventContent.{EventContent}
 use Rattle.tree_types.specs.OfContent.{IsEventProfile}
 use Rattle.command_line.specs.declared.status.InputFault.{InputFault}
-use Rattle.hpc_top.specs.declared.merged.Merged.{Merged}
+use Rattle.run_profile.specs.declared.merged.Merged.{Merged}
 use Rattle.hpc_top.specs.declared.profiling.ProfiledRun.{ProfiledRun}
 use Rattle.hpc_top.specs.declared.profiling.ReadJob.{ReadJob}
 use Rattle.hpc_top.specs.declared.status.Made.{Made}
 use Rattle.hpc_top.specs.Made.{product_in}
-use Rattle.hpc_top.specs.Measured.{Measured, lines_of}
-use Rattle.hpc_top.specs.Merged.{Merging}
-use Rattle.hpc_top.specs.Product.{Product}
-use Rattle.hpc_top.specs.Program.{frame_information, program, scheduled}
-use Rattle.hpc_top.specs.Scopes.{program_scopes}
+use Rattle.program_run.specs.Measured.{Measured, lines_of}
+use Rattle.run_profile.specs.Merging.{Merging}
+use Rattle.command_line.specs.declared.product.Product.{Product}
+use Rattle.program_run.specs.Program.{frame_information, program, scheduled}
+use Rattle.program_run.specs.Scopes.{program_scopes}
 use Rattle.hpc_top.specs.commands.Profile.{Profiled, profiled_program}
-use Rattle.hpc_top.specs.private.Counting.{IsCount}
-use Rattle.hpc_top.specs.private.EventTexts.{lines_of_events, tables_in}
-use Rattle.hpc_top.specs.private.Merging.{IsMergeOf}
+use Rattle.program_run.specs.Counting.{IsCount}
+use Rattle.run_profile.specs.EventTexts.{lines_of_events, tables_in}
+use Rattle.run_profile.specs.Merging.{IsMergeOf}
 
 -- its samples are counted and merged
 pub record IsProfileOf (by : Merging) (events : List EventPeriod) (p : Profiled) (profiled : ProfiledRun) : Type 0 where

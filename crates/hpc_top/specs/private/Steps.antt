@@ -7,9 +7,8 @@ use Rattle.command_line.specs.declared.status.InputFault.TheVariants.{TooLong}
 use Rattle.hpc_top.specs.declared.status.Stop.{Stop}
 use Rattle.hpc_top.specs.declared.status.Stop.TheVariants.{Input, Device, Memory}
 use Rattle.command_line.specs.declared.status.Place.TheVariants.{Read, Store, Print}
-use Rattle.hpc_top.specs.Product.{Product}
-use Rattle.command_line.specs.declared.kind.FileKind.{FileKind}
-use Rattle.command_line.specs.Kind.{Wanted, file_limit, kinds_of}
+use Rattle.command_line.specs.declared.product.Product.{Product}
+use Rattle.command_line.specs.Kind.{AreWithin, Wanted, file_limit, kinds_of}
 use Rattle.command_line.specs.Request.{Request}
 use Rattle.hpc_top.specs.Verdict.{limited_bytes, contents, verdict}
 use Rattle.hpc_top.specs.Outcome.{Call, Storing, Printing, Finished, ReadFailed, StoreFailed, PrintFailed}
@@ -34,13 +33,6 @@ Fetches old new w (Ok text) =
     (new ≡ with_fetches old (w ∷ [])) × (length text ≤ file_limit w.file)
     × (IsTrue old.known → limited_bytes old.files w ≡ Ok text)
 Fetches old new w (Err stop) = FetchStops old new w stop
-
--- one text for each file of these kinds, and within its limit
-abbrev pub AreWithin : List (List ℕ) → List FileKind → Type 0
-AreWithin [] [] = Unit {0}
-AreWithin (text ∷ texts) (file ∷ files) = (length text ≤ file_limit file) × AreWithin texts files
-AreWithin [] (file ∷ files) = ⊥
-AreWithin (text ∷ texts) [] = ⊥
 
 -- why a command stops before it delivers, where the definition of what it gives is `wanted`. It changes nothing but the
 -- failed reads and the log

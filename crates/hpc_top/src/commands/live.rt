@@ -7,12 +7,11 @@ ghost use Rattle.prof_bytes.specs.Outcome.{Gives};
 ghost use Rattle.scope_types.specs.Events.{AreEvents};
 ghost use Rattle.scope_types.specs.Limits.{least_epoch, most_epoch};
 ghost use Rattle.hpc_top.specs.commands.Profile.{profile_makes};
-ghost use Rattle.hpc_top.specs.private.Steps.{AreWithin};
+ghost use Rattle.command_line.specs.Kind.{AreWithin};
 
 use crate::commands::profile::Job;
 use crate::live_runs::live_product;
-use crate::product::{Product, nothing};
-use command_line::InputFault;
+use command_line::{InputFault, Product, nothing};
 use live_merge::GateWorkers;
 use prof_bytes::{Fail, Text};
 use prof_devices::Gate;

@@ -5,25 +5,23 @@ ghost use Rattle.command_line.specs.Request.{AreWorkers};
 ghost use Rattle.measure_file.specs.Measurable.{IsEventMeasurable};
 ghost use Rattle.prof_bytes.specs.Outcome.{Gives};
 ghost use Rattle.scope_types.specs.Limits.{most_runs};
-ghost use Rattle.hpc_top.specs.Verdict.{program_limit};
+ghost use Rattle.command_line.specs.Kind.{program_limit};
 ghost use Rattle.hpc_top.specs.commands.Merge.{merge_makes, merge_product, merged_runs, of_same_events};
 ghost use Rattle.hpc_top.specs.private.Products.{limited_or};
-ghost use Rattle.hpc_top.specs.private.Steps.{AreWithin};
+ghost use Rattle.command_line.specs.Kind.{AreWithin};
 
 use crate::attribution::attribute_code;
-use crate::events::copied_events;
-use crate::merged::Merge;
-use crate::product::{Product, nothing};
-use crate::program::program_of;
 use crate::runs::{
     check_events, check_programs, check_samples, first_events, harts_of, joined, read_runs,
 };
-use command_line::InputFault;
+use command_line::{InputFault, Product, copied_events, nothing};
 use elf_image::Image;
 use measure_file::EventHead;
 use merge_crew::{Crews, WorkCrew};
 use prof_bytes::{Fail, Text};
 use prof_devices::Gate;
+use program_run::program_of;
+use run_profile::Merge;
 use std::alloc::Global;
 use std::thread::Threads;
 use thread_cct::Ccts;

@@ -4,28 +4,26 @@ ghost use Rattle.command_line.specs.declared.kind.FileKind.TheVariants as kinds;
 ghost use Rattle.command_line.specs.Request.{AreWorkers};
 ghost use Rattle.measure_file.specs.Measurable.{IsEventMeasurable};
 ghost use Rattle.prof_bytes.specs.Outcome.{Gives};
-ghost use Rattle.hpc_top.specs.Verdict.{program_limit};
+ghost use Rattle.command_line.specs.Kind.{program_limit};
 ghost use Rattle.hpc_top.specs.commands.Prof.{attributed_code, is_of_program, measurement, of_program};
 ghost use Rattle.hpc_top.specs.commands.Prof.{prof_makes, prof_product};
-ghost use Rattle.hpc_top.specs.private.Steps.{AreWithin};
+ghost use Rattle.command_line.specs.Kind.{AreWithin};
 
 use crate::attribution::attribute_code;
-use crate::merged::Merge;
-use crate::product::{Product, nothing};
-use crate::program::{is_same_program, program_of, wrong_program};
-use crate::refusal::as_input;
-use command_line::InputFault;
+use command_line::{InputFault, Product, as_input, nothing};
 use elf_image::Image;
 use measure_file::{EventHead, read_any};
 use merge_crew::{Crews, WorkCrew};
 use prof_bytes::{Fail, Text};
 use prof_devices::Gate;
+use program_run::{is_same_program, program_of, wrong_program};
+use run_profile::Merge;
 use std::alloc::Global;
 use std::thread::Threads;
 use thread_cct::Ccts;
 
 /// The measurement, or the first fault of its file.
-#[tactic(auto, using(crate::proofs::Faults::input_steps))]
+#[tactic(auto, using(command_line::proofs::Faults::input_steps))]
 fn measured(alloc: Global, bytes: &[u8]) -> Result<(EventHead, Ccts), Fail<InputFault>>
     ensures exact { Gives (λ m. m) result (measurement bytes.now) }
     ensures measured { IfOk result (λ m. IsEventMeasurable m.0 m.1) }

@@ -7,24 +7,22 @@ ghost use Rattle.scope_types.specs.Events.{AreEvents};
 ghost use Rattle.hpc_top.specs.Job.{IsJob};
 ghost use Rattle.hpc_top.specs.Made.{product_in};
 ghost use Rattle.tree_types.specs.OfContent.{IsEventProfile};
-ghost use Rattle.hpc_top.specs.Measured.{Measured};
-ghost use Rattle.hpc_top.specs.Merged.{MakesBy, merging};
+ghost use Rattle.program_run.specs.Measured.{Measured};
+ghost use Rattle.hpc_top.specs.Merged.{MakesBy};
+ghost use Rattle.run_profile.specs.Merging.{merging};
 ghost use Rattle.hpc_top.specs.commands.Profile.{profile_makes, profile_of, profiled_of};
-ghost use Rattle.hpc_top.specs.private.Counting.{IsCount};
+ghost use Rattle.program_run.specs.Counting.{IsCount};
 ghost use Rattle.hpc_top.specs.private.Profiling.{IsMadeBy, IsReportOf};
-ghost use Rattle.hpc_top.specs.private.Steps.{AreWithin};
+ghost use Rattle.command_line.specs.Kind.{AreWithin};
 
-use crate::both::database_and_tables;
-use crate::counting::{CountedRun, lines_of};
-use crate::events::event_lines;
-use crate::merged::Merged;
-use crate::product::{Product, nothing, product_of};
 use crate::profiling::{ProfiledRun, profile_run};
 use crate::status::Made;
-use command_line::InputFault;
+use command_line::{InputFault, Product, nothing};
 use merge_crew::{Crews, WorkCrew};
 use prof_bytes::{Fail, Memory, Text};
 use prof_devices::Gate;
+use program_run::{CountedRun, lines_of};
+use run_profile::{Merged, database_and_tables, event_lines};
 use scope_types::EventPeriod;
 use std::alloc::Global;
 use std::thread::Threads;
@@ -111,6 +109,21 @@ pub fn profile<R: Threads + Sync + AllocGlobal, C: Crews>(
     event_paths_are_paths();
     let profiled = profile_run(rt, rt.alloc(), job, crews)?;
     Ok(made_of(rt, rt.alloc(), job.periods, profiled)?)
+}
+
+/// What was made, to be stored and put.
+fn product_of(made: Made) -> Product
+    ensures { result ≡ product_in made }
+{
+    let Made {
+        database,
+        report,
+        ..
+    } = made;
+    Product {
+        stored: database,
+        text: report,
+    }
 }
 
 /// What `profile` makes of its files.

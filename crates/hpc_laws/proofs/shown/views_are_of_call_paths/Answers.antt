@@ -1,4 +1,4 @@
-use Rattle.hpc_top.proofs.Tables.{table_of_event, shown_of_stored}
+use Rattle.run_profile.proofs.Tables.{table_of_event, shown_of_stored}
 use Rattle.hpc_laws.proofs.shown.views_are_of_call_paths.Goals as goal
 
 pub returns-clause-content : goal.returns-clause-content

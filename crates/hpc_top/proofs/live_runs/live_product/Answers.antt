@@ -2,7 +2,7 @@ use Rattle.std.proofs.Common.{Result, subst, sym}
 use Rattle.std.proofs.lemmas.Result.{err_from_is_err_and}
 use Rattle.prof_bytes.specs.Outcome.{Gives}
 use Rattle.command_line.specs.declared.status.InputFault.{InputFault}
-use Rattle.hpc_top.specs.Product.{Product}
+use Rattle.command_line.specs.declared.product.Product.{Product}
 use Rattle.hpc_top.specs.private.Profiling.{files_in}
 use Rattle.hpc_top.proofs.JobFiles.{no_product_here, product_here}
 use Rattle.hpc_top.proofs.live_runs.live_product.Goals as goal

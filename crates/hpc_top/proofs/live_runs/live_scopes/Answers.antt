@@ -2,7 +2,7 @@ use Rattle.std.proofs.Common.{◌∙◌}
 use Rattle.std.proofs.lemmas.Result.{err_from_is_err_and}
 use Rattle.cfi_table.specs.Frames.{descriptions}
 use Rattle.scope_find.specs.Found.{ProgramScopes}
-use Rattle.hpc_top.specs.Measured.{measured}
+use Rattle.program_run.specs.Measured.{measured}
 use Rattle.hpc_top.proofs.LiveRuns.{product_live, refused_live}
 use Rattle.hpc_top.proofs.live_runs.live_scopes.Goals as goal
 

@@ -1,7 +1,7 @@
 use Rattle.std.proofs.Common.{[], ◌∷◌, refl}
-use Rattle.hpc_top.specs.Attribution.{call_paths_of}
+use Rattle.run_profile.specs.Attribution.{call_paths_of}
 use Rattle.hpc_top.specs.private.LiveRuns.{samples_attributed}
-use Rattle.hpc_top.proofs.Counted.{runs_here}
+use Rattle.hpc_top.proofs.CountedRuns.{runs_here}
 use Rattle.hpc_top.proofs.LiveRuns.{products_are, tree_here}
 use Rattle.hpc_top.proofs.live_runs.made_live.Goals as goal
 

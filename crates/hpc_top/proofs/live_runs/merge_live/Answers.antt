@@ -1,7 +1,7 @@
 use Rattle.cfi_unwind.specs.Path.{path_by as unwound_by}
 use Rattle.scope_find.specs.Found.{found_at}
-use Rattle.hpc_top.proofs.Counted.{own_samples}
-use Rattle.hpc_top.proofs.FewEvents.{few_columns}
+use Rattle.program_run.proofs.Counted.{own_samples}
+use Rattle.program_run.proofs.RunColumns.{few_columns}
 use Rattle.hpc_top.proofs.LiveRuns.{LiveLaws, runs_live}
 use Rattle.hpc_top.proofs.live_runs.merge_live.Goals as goal
 

@@ -4,7 +4,7 @@ use Rattle.rv_run.specs.Run.{Instant}
 use Rattle.rv_run.specs.Progress.{Progress, to_come}
 use Rattle.cfi_unwind.specs.Caller.{Unwinding}
 use Rattle.cfi_unwind.specs.Path.{unwinding_of, path_of as unwound_by}
-use Rattle.hpc_top.specs.Measured.{measured_run}
+use Rattle.program_run.specs.Measured.{measured_run}
 use Rattle.hpc_top.specs.private.LiveRuns.{RunsLive, measured_live}
 use Rattle.hpc_top.proofs.live_runs.run_while_merging.Goals as goal
 

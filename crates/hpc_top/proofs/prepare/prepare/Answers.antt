@@ -2,7 +2,7 @@ use Rattle.std.proofs.Common.{ℕ, ◌∙◌, List, ap, map, subst, sym}
 use Rattle.command_line.specs.declared.kind.Want.{Want}
 use Rattle.command_line.specs.Kind.{kinds_of, view_want}
 use Rattle.command_line.specs.Request.{kinds_read}
-use Rattle.hpc_top.specs.private.Steps.{AreWithin}
+use Rattle.command_line.specs.Kind.{AreWithin}
 use Rattle.hpc_top.proofs.Fetching.{of_kinds}
 use Rattle.hpc_top.proofs.prepare.prepare.Goals as goal
 

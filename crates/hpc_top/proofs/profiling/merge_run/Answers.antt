@@ -1,7 +1,8 @@
 use Rattle.std.proofs.Common.{ℕ, List, length, ap, ◌∙◌}
 use Rattle.std.proofs.lemmas.Result.{err_from_is_err_and}
-use Rattle.hpc_top.specs.Merged.{merging}
-use Rattle.hpc_top.proofs.Counted.{below_own, columns_here, counts_own, runs_here}
+use Rattle.run_profile.specs.Merging.{merging}
+use Rattle.program_run.proofs.Counted.{below_own, counts_own}
+use Rattle.hpc_top.proofs.CountedRuns.{columns_here, runs_here}
 use Rattle.hpc_top.proofs.Products.{profiled_is, refused_merge}
 use Rattle.hpc_top.proofs.profiling.merge_run.Goals as goal
 

@@ -1,6 +1,6 @@
 use Rattle.std.proofs.Common.{subst}
 use Rattle.scope_find.specs.Found.{ProgramScopes}
-use Rattle.hpc_top.specs.Merged.{merging}
+use Rattle.run_profile.specs.Merging.{merging}
 use Rattle.hpc_top.specs.commands.Profile.{profiled}
 use Rattle.hpc_top.specs.private.Profiling.{Profiles}
 use Rattle.hpc_top.proofs.profiling.merge_scopes.Goals as goal

@@ -4,11 +4,11 @@ use Rattle.cfi_table.specs.Frames.{descriptions}
 use Rattle.prof_bytes.specs.Outcome.{◌>>=◌}
 use Rattle.scope_find.specs.Found.{ProgramScopes}
 use Rattle.command_line.specs.declared.status.InputFault.{InputFault}
-use Rattle.hpc_top.specs.Measured.{Measured, measured}
-use Rattle.hpc_top.specs.Merged.{merging}
+use Rattle.program_run.specs.Measured.{Measured, measured}
+use Rattle.run_profile.specs.Merging.{merging}
 use Rattle.hpc_top.specs.commands.Profile.{Profiled, profiled}
 use Rattle.hpc_top.specs.private.Profiling.{Profiles}
-use Rattle.hpc_top.proofs.Faults.{fails_next}
+use Rattle.command_line.proofs.Faults.{fails_next}
 use Rattle.hpc_top.proofs.profiling.profile_program.Goals as goal
 
 pub returns-in_err-counted : goal.returns-in_err-counted

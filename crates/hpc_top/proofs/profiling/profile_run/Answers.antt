@@ -1,7 +1,7 @@
 use Rattle.std.proofs.Common.{Result, sym, subst}
 use Rattle.std.proofs.lemmas.Result.{err_from_is_err_and}
 use Rattle.command_line.specs.declared.status.InputFault.{InputFault}
-use Rattle.hpc_top.specs.Merged.{merging}
+use Rattle.run_profile.specs.Merging.{merging}
 use Rattle.hpc_top.specs.commands.Profile.{Profiled}
 use Rattle.hpc_top.specs.private.Profiling.{Profiles, files_in}
 use Rattle.hpc_top.proofs.JobFiles.{profiled_here, refused_here}

@@ -2,7 +2,7 @@ use Rattle.std.proofs.Common.{◌≡◌, Ok, map, take, IsTrue}
 use Rattle.command_line.specs.Kind.{kinds_of, view_want}
 use Rattle.hpc_top.specs.Outcome.{are_known, with_fetches}
 use Rattle.hpc_top.specs.Verdict.{contents}
-use Rattle.hpc_top.specs.private.Steps.{AreWithin}
+use Rattle.command_line.specs.Kind.{AreWithin}
 use Rattle.hpc_top.proofs.steps.fetch_all.Given as goal
 
 abbrev pub invariant-loop-want : goal.invariant-loop-want

@@ -1,7 +1,7 @@
 use Rattle.std.proofs.Common.{ap, ◌∙◌}
 use Rattle.std.proofs.lemmas.Result.{err_from_is_err_and}
-use Rattle.hpc_top.specs.Merged.{merging}
-use Rattle.hpc_top.specs.Product.{only_text}
+use Rattle.run_profile.specs.Merging.{merging}
+use Rattle.command_line.specs.Product.{only_text}
 use Rattle.hpc_top.specs.commands.Profile.{profiled_of}
 use Rattle.hpc_top.proofs.Drilling.{drilled_is}
 use Rattle.hpc_top.proofs.commands.drill.drill_job.Goals as goal

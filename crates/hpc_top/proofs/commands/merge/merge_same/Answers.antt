@@ -4,7 +4,7 @@ use Rattle.scope_types.specs.Columns.{columns_of}
 use Rattle.scope_types.specs.Distinct.{samples_in}
 use Rattle.scope_types.specs.Limits.{most_samples}
 use Rattle.hpc_top.specs.commands.Merge.{KeptRun, all_tables, first_events, harts_of_runs}
-use Rattle.hpc_top.specs.private.Merging.{AreRuns}
+use Rattle.run_profile.specs.Merging.{AreRuns}
 use Rattle.scope_types.specs.Events.{AreEvents}
 use Rattle.hpc_top.proofs.KeptRuns.{first_are, kept_runs}
 use Rattle.hpc_top.proofs.MergedRuns.{joined_columns, joined_measured}

@@ -1,5 +1,5 @@
 use Rattle.std.proofs.lemmas.Result.{err_from_is_err_and}
-use Rattle.hpc_top.specs.Merged.{merging}
+use Rattle.run_profile.specs.Merging.{merging}
 use Rattle.hpc_top.specs.commands.Profile.{profiled_of}
 use Rattle.hpc_top.proofs.Products.{makes, refused_product, whole_product}
 use Rattle.hpc_top.proofs.commands.profile.profile.Goals as goal

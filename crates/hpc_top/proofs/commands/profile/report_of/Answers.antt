@@ -1,7 +1,7 @@
 use Rattle.std.proofs.Common.{List, ap, sym, ◌∙◌}
 use Rattle.scope_types.specs.declared.event.EventPeriod.{EventPeriod}
-use Rattle.hpc_top.specs.private.EventTexts.{lines_of_events}
-use Rattle.hpc_top.proofs.Counted.{counts_own}
+use Rattle.run_profile.specs.EventTexts.{lines_of_events}
+use Rattle.program_run.proofs.Counted.{counts_own}
 use Rattle.hpc_top.proofs.Products.{report_is}
 use Rattle.hpc_top.proofs.commands.profile.report_of.Goals as goal
 

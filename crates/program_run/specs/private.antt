@@ -1,0 +1,3 @@
+-- What only private functions and proofs use.
+pub mod Products
+pub mod Tracing

@@ -1,0 +1,4 @@
+pub mod Attribution
+pub mod Merging
+pub mod EventTexts
+pub mod commands
