@@ -1,6 +1,6 @@
 -- Epochs of a run, as they are counted and merged.
 use Rattle.std.specs.Prelude.{◌≡◌, ℕ, ◌+◌, ◌<◌, ◌≤◌, List, [], ◌++◌, map, length, sum_by, All, Result, Ok, Err}
-use Rattle.std.specs.Prelude.{◌∷◌, Option, Some, None, IfSome, true, false}
+use Rattle.std.specs.Prelude.{◌∷◌, ◌-◌, ◌≢◌, Option, Some, None, IfSome, slice_get, true, false}
 use Rattle.prof_bytes.specs.declared.fail.Fail.{Fail}
 use Rattle.prof_bytes.specs.declared.fail.Fail.TheVariants as fails
 use Rattle.prof_bytes.specs.Outcome.{FailsBy}
@@ -158,7 +158,7 @@ pub record AddsAll (call_path : Raw → List Scope) (epoch : List (List Counted)
 
 -- the last tree is taken where it is of this level, and none else
 abbrev pub TakesLevel : ℕ → Option CountedTree → List Grown → List Grown → Type 0
-TakesLevel level None old new = new ≡ old
+TakesLevel level None old new = (new ≡ old) × IfSome (slice_get old (length old - 1)) (λ last. last.level ≢ level)
 TakesLevel level (Some tree) old new = old ≡ new ++ record { level = level; tree = tree } ∷ []
 
 -- ---- the whole run

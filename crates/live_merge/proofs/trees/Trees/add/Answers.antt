@@ -10,7 +10,7 @@ use Rattle.live_merge.proofs.trees.Trees.add.Goals as goal
 -- where no tree was taken the sum is put after all
 pushed : (level : ℕ) (taken : Option CountedTree) (old same new : List Grown) (d : Grown) → taken ≡ None → TakesLevel level taken old same → new ≡ same ++ d ∷ [] → new ≡ old ++ d ∷ []
 pushed level taken old same new d none takes push =
-    let is : same ≡ old = subst (λ (o : Option CountedTree). TakesLevel level o old same) none takes in
+    let is : same ≡ old = (subst (λ (o : Option CountedTree). TakesLevel level o old same) none takes).0 in
     push ∙ ap (λ (l : List Grown). l ++ d ∷ []) is
 
 pub add_trees-requires : goal.add_trees-requires
