@@ -239,20 +239,16 @@ fn other_entry_in(
     Ok(other.or(other_inlined(alloc, info, &entries, inlined)))
 }
 
-#[test]
-fn a_program_by_gcc(rt: HostRuntime) -> Result<(), Fail> {
+/// The same of the program by gcc.
+fn other_entry_of_gcc(alloc: Global) -> Result<Option<u32>, Unread> {
     use gcc_program::{INLINED, SECTIONS, SUBPROGRAMS, TAGS};
-    let other = other_entry(rt.alloc(), SECTIONS, &TAGS, &SUBPROGRAMS, &INLINED)?;
-    assert_eq!(rt; other, None);
-    Ok(())
+    other_entry(alloc, SECTIONS, &TAGS, &SUBPROGRAMS, &INLINED)
 }
 
-#[test]
-fn a_program_by_clang(rt: HostRuntime) -> Result<(), Fail> {
+/// The same of the program by clang.
+fn other_entry_of_clang(alloc: Global) -> Result<Option<u32>, Unread> {
     use clang_program::{INLINED, SECTIONS, SUBPROGRAMS, TAGS};
-    let other = other_entry(rt.alloc(), SECTIONS, &TAGS, &SUBPROGRAMS, &INLINED)?;
-    assert_eq!(rt; other, None);
-    Ok(())
+    other_entry(alloc, SECTIONS, &TAGS, &SUBPROGRAMS, &INLINED)
 }
 
 /// How many entries of each tag the worked program has.
@@ -280,10 +276,11 @@ static INLINED: [Inlined; 2] = [
 ];
 
 #[test]
-fn a_worked_program(rt: HostRuntime) -> Result<(), Fail> {
-    let sections = worked::SECTIONS;
-    let other = other_entry(rt.alloc(), sections, &TAGS, &SUBPROGRAMS, &INLINED)?;
-    assert_eq!(rt; other, None);
+fn programs_by_gcc_by_clang_and_by_hand(rt: HostRuntime) -> Result<(), Fail> {
+    let gcc = other_entry_of_gcc(rt.alloc())?;
+    let clang = other_entry_of_clang(rt.alloc())?;
+    let worked = other_entry(rt.alloc(), worked::SECTIONS, &TAGS, &SUBPROGRAMS, &INLINED)?;
+    assert_eq!(rt; (gcc, clang, worked), (None, None, None));
     Ok(())
 }
 
@@ -333,32 +330,12 @@ fn failing(alloc: Global, with: &[Part], cases: &[Case]) -> Result<Option<&'stat
     Ok(None)
 }
 
-/// The first case of names, links and calls that does not hold.
-fn failing_attribute(alloc: Global) -> Result<Option<&'static str>, Unread> {
-    failing(alloc, &[], &names::CASES)
-}
-
-/// The first case of ranges that does not hold.
-fn failing_range(alloc: Global) -> Result<Option<&'static str>, Unread> {
-    failing(alloc, &[], &lists::CASES)
-}
-
-/// The first list that does not hold.
-fn failing_list(alloc: Global) -> Result<Option<&'static str>, Unread> {
-    failing(alloc, &lists::AT_START, &lists::LISTS)
-}
-
-/// The first list with indices of addresses that does not hold.
-fn failing_indexed_list(alloc: Global) -> Result<Option<&'static str>, Unread> {
-    failing(alloc, &lists::WITH_ADDRESSES, &lists::INDEXED_LISTS)
-}
-
-/// The first case of all these that does not hold.
+/// The first case of names, links, calls, ranges and lists that does not hold.
 fn failing_of_all(alloc: Global) -> Result<Option<&'static str>, Unread> {
-    let attribute = failing_attribute(alloc)?;
-    let range = failing_range(alloc)?;
-    let list = failing_list(alloc)?;
-    let indexed_list = failing_indexed_list(alloc)?;
+    let attribute = failing(alloc, &[], &names::CASES)?;
+    let range = failing(alloc, &[], &lists::CASES)?;
+    let list = failing(alloc, &lists::AT_START, &lists::LISTS)?;
+    let indexed_list = failing(alloc, &lists::WITH_ADDRESSES, &lists::INDEXED_LISTS)?;
     Ok(attribute.or(range).or(list).or(indexed_list))
 }
 

@@ -46,28 +46,18 @@ fn failing(
     Ok(None)
 }
 
-#[test]
-fn the_header_is_refused(rt: HostRuntime) -> Result<(), Fail> {
-    let other = failing(rt.alloc(), files::straight(), &refused::HEADER_ROWS)?;
-    no_row(other)
+/// The first row of the header, the segments, the sections and the symbols that does not hold.
+fn other_refusal(alloc: Global) -> Result<Option<&'static str>, Memory> {
+    let header = failing(alloc, files::straight(), &refused::HEADER_ROWS)?;
+    let segment = failing(alloc, files::segments(), &refused::SEGMENT_ROWS)?;
+    let section = failing(alloc, files::names(), &refused::SECTION_ROWS)?;
+    let symbol = failing(alloc, files::recursive(), &refused::SYMBOL_ROWS)?;
+    Ok(header.or(segment).or(section).or(symbol))
 }
 
 #[test]
-fn segments_are_refused(rt: HostRuntime) -> Result<(), Fail> {
-    let other = failing(rt.alloc(), files::segments(), &refused::SEGMENT_ROWS)?;
-    no_row(other)
-}
-
-#[test]
-fn sections_are_refused(rt: HostRuntime) -> Result<(), Fail> {
-    let other = failing(rt.alloc(), files::names(), &refused::SECTION_ROWS)?;
-    no_row(other)
-}
-
-#[test]
-fn symbols_are_refused(rt: HostRuntime) -> Result<(), Fail> {
-    let other = failing(rt.alloc(), files::recursive(), &refused::SYMBOL_ROWS)?;
-    no_row(other)
+fn headers_segments_sections_and_symbols_are_refused(rt: HostRuntime) -> Result<(), Fail> {
+    no_row(other_refusal(rt.alloc())?)
 }
 
 /// Whether a front of a file is refused at its end.
@@ -302,14 +292,6 @@ fn lld_shows(alloc: Global) -> Result<bool, Memory> {
     shows(alloc, files::lld(), b"", &addresses, wanted)
 }
 
-/// What readelf says of the headers, the sizes of the sections and the function symbols.
-#[test]
-fn files_of_gnu_ld_and_lld(rt: HostRuntime) -> Result<(), Fail> {
-    assert!(rt; gnu_shows(rt.alloc())?);
-    assert!(rt; lld_shows(rt.alloc())?);
-    Ok(())
-}
-
 /// Whether the addresses in the outer function alone, and after both, have their functions.
 fn outer_shows(alloc: Global) -> Result<bool, Memory> {
     let wanted = Wanted::End("0 0 0 44 0 _start\nnone\n");
@@ -325,14 +307,6 @@ fn inner_shows(alloc: Global) -> Result<bool, Memory> {
     shows(alloc, files::recursive(), changes, &addresses, wanted)
 }
 
-/// The first in symbol order holds an address, also where functions nest.
-#[test]
-fn nested_functions(rt: HostRuntime) -> Result<(), Fail> {
-    assert!(rt; outer_shows(rt.alloc())?);
-    assert!(rt; inner_shows(rt.alloc())?);
-    Ok(())
-}
-
 /// Whether the ranges count that should: of two segments that touch, and of one that cannot be executed.
 fn counted(alloc: Global) -> Result<bool, Memory> {
     let changes = b"188=8 190=3 204=5";
@@ -340,8 +314,14 @@ fn counted(alloc: Global) -> Result<bool, Memory> {
     shows(alloc, files::segments(), changes, &[], wanted)
 }
 
+/// What readelf says of the headers, the sections' sizes and the function symbols, of GNU ld and lld; the first in
+/// symbol order holds an address, also where functions nest; and ranges that count.
 #[test]
-fn ranges_that_count(rt: HostRuntime) -> Result<(), Fail> {
-    assert!(rt; counted(rt.alloc())?);
+fn files_nested_functions_and_ranges(rt: HostRuntime) -> Result<(), Fail> {
+    assert!(rt; gnu_shows(rt.alloc())?, "GNU ld");
+    assert!(rt; lld_shows(rt.alloc())?, "lld");
+    assert!(rt; outer_shows(rt.alloc())?, "the outer function");
+    assert!(rt; inner_shows(rt.alloc())?, "the inner function");
+    assert!(rt; counted(rt.alloc())?, "ranges that count");
     Ok(())
 }

@@ -4,14 +4,16 @@ use dwarf_forms::constants::{
     DW_CHILDREN_no, DW_FORM_data1, DW_FORM_data2, DW_FORM_data4, DW_FORM_flag_present,
     DW_FORM_implicit_const, DW_FORM_ref4, DW_FORM_sec_offset,
 };
-use dwarf_forms::{Abbrevs, BadTable, Spec, read_abbrevs};
+use dwarf_forms::{
+    Abbrevs, BadTable, Spec, attribute, code_at, first_declaration, read_abbrevs, specs_at,
+};
 use dwarf_info::constants::{
     DW_AT_byte_size, DW_AT_call_column, DW_AT_external, DW_AT_high_pc, DW_AT_inline,
     DW_AT_loclists_base, DW_AT_name, DW_AT_stmt_list, DW_AT_type, DW_TAG_base_type,
     DW_TAG_compile_unit, DW_TAG_inlined_subroutine, DW_TAG_lexical_block, DW_TAG_subprogram,
     DW_TAG_volatile_type,
 };
-use prof_bytes::Memory;
+use prof_bytes::{Memory, Reader};
 use std::alloc::Global;
 use std::test::Fail;
 use test_programs::program::{Unread, readable};
@@ -109,18 +111,11 @@ fn other_declaration(table: &Abbrevs) -> Option<u64> {
     None
 }
 
-/// The first code that is declared and should not be.
-fn needless_declaration(table: &Abbrevs) -> Option<u64> {
-    [14, 0]
-        .iter()
-        .find(|code| table.find(**code).is_some())
-        .copied()
-}
-
 /// The first code of a table of these bytes that is declared in another way, or should not be.
 fn other_code(alloc: Global, bytes: &[u8]) -> Result<Option<u64>, Unread> {
     let table = readable(read_abbrevs(alloc, bytes, 0))?;
-    Ok(other_declaration(&table).or(needless_declaration(&table)))
+    let needless = table.find(14).or(table.find(0));
+    Ok(other_declaration(&table).or(needless.map(|declared| declared.code)))
 }
 
 /// The same in the table of the program.
@@ -129,9 +124,56 @@ fn other_code_of_program(alloc: Global) -> Result<Option<u64>, Unread> {
     other_code(alloc, &bytes)
 }
 
+/// The offset of the first declaration of a code, where that code is read there.
+fn offset_of(bytes: &[u8], code: u64) -> Option<usize> {
+    match first_declaration(bytes, 0, code) {
+        Ok(Some(offset)) if code_at(bytes, offset) == Ok(code) => Some(offset),
+        _ => None,
+    }
+}
+
+/// How many attributes begin here, and the last one with its form.
+fn last_here(reader: &mut Reader<'_, BadTable>) -> (usize, (u64, u64, i64)) {
+    let mut last = (0, 0, 0);
+    let room = reader.left();
+    for count in 0..room {
+        match attribute(reader) {
+            Ok(Some(spec)) => last = (spec.attribute, spec.form, spec.implicit),
+            _ => return (count, last),
+        }
+    }
+    (room, last)
+}
+
+/// How many attributes the declaration at an offset has, and the last one with its form.
+fn last_at(bytes: &[u8], offset: usize) -> Option<(usize, (u64, u64, i64))> {
+    match specs_at(bytes, offset) {
+        Ok(mut reader) => Some(last_here(&mut reader)),
+        Err(_) => None,
+    }
+}
+
+/// The first code whose declaration in these bytes is another one.
+fn other_in_bytes(bytes: &[u8]) -> Option<u64> {
+    for (code, _, _, count, last) in &DECLARED {
+        match offset_of(bytes, *code) {
+            Some(offset) if last_at(bytes, offset) == Some((*count, *last)) => {}
+            _ => return Some(*code),
+        }
+    }
+    None
+}
+
+/// The same in the table of the program.
+fn other_in_bytes_of_program(alloc: Global) -> Result<Option<u64>, Memory> {
+    let bytes = bytes_of(alloc, ABBREV)?;
+    Ok(other_in_bytes(&bytes))
+}
+
 #[test]
 fn declarations_of_a_program(rt: HostRuntime) -> Result<(), Fail> {
     assert_eq!(rt; other_code_of_program(rt.alloc())?, None);
+    assert_eq!(rt; other_in_bytes_of_program(rt.alloc())?, None);
     Ok(())
 }
 
@@ -210,14 +252,10 @@ static ABSENT: [(&str, &[&[u8]], u32); 5] = [
     ),
 ];
 
-fn tag_of(table: &Abbrevs) -> Option<u64> {
-    table.find(1).map(|declared| declared.tag)
-}
-
 /// The tag that code 1 has in the table at the offset, where that is whole.
 fn tag_at(alloc: Global, bytes: &[u8], offset: u32) -> Result<Option<u64>, Memory> {
     match read_abbrevs(alloc, bytes, offset) {
-        Ok(table) => Ok(tag_of(&table)),
+        Ok(table) => Ok(table.find(1).map(|declared| declared.tag)),
         Err(prof_bytes::Fail::Fault(BadTable)) => Ok(None),
         Err(prof_bytes::Fail::Memory(memory)) => Err(memory),
     }
@@ -246,13 +284,6 @@ fn other_tag(
         }
     }
     Ok(None)
-}
-
-#[test]
-fn tables_by_their_offset(rt: HostRuntime) -> Result<(), Fail> {
-    let unit = other_tag(rt.alloc(), &UNITS, Some(DW_TAG_compile_unit))?;
-    let absent = other_tag(rt.alloc(), &ABSENT, None)?;
-    no_row(unit.or(absent))
 }
 
 /// The index of a declaration, and the tags that codes 1 and 3 have from it on.
@@ -301,13 +332,11 @@ static ENDS: [(u32, Option<End>); 5] = [
     (15, None),
 ];
 
-/// The same of the second and the third table.
+/// The same of the second table.
 static FALLING_ENDS: [(u32, Option<End>); 1] = [(
     5,
     Some((1, Some(DW_TAG_subprogram), Some(DW_TAG_base_type))),
 )];
-
-static TWICE_ENDS: [(u32, Option<End>); 1] = [(5, None)];
 
 fn end_at(table: &Abbrevs, offset: u32) -> Option<End> {
     let index = table.from_index(0).index_at(offset)?;
@@ -343,12 +372,28 @@ fn other_end_of(
 fn other_end(alloc: Global) -> Result<Option<(&'static str, u32)>, Unread> {
     let three = other_end_of(alloc, "three declarations", &THREE, &ENDS)?;
     let falling = other_end_of(alloc, "codes that fall", &FALLING, &FALLING_ENDS)?;
-    let twice = other_end_of(alloc, "two of one code", &TWICE, &TWICE_ENDS)?;
+    let twice = other_end_of(alloc, "two of one code", &TWICE, &[(5, None)])?;
     Ok(three.or(falling).or(twice))
 }
 
+/// The first declaration of a code declared twice, at two offsets, and of no code; and no table past the end.
+fn first_ones(alloc: Global) -> Result<[Result<Option<usize>, BadTable>; 4], Memory> {
+    let bytes = joined(alloc, &TWICE)?;
+    Ok([
+        first_declaration(&bytes, 0, 1),
+        first_declaration(&bytes, 5, 1),
+        first_declaration(&bytes, 0, 2),
+        first_declaration(&bytes, 12, 1),
+    ])
+}
+
 #[test]
-fn ends_of_tables(rt: HostRuntime) -> Result<(), Fail> {
+fn tables_by_their_offset(rt: HostRuntime) -> Result<(), Fail> {
+    let unit = other_tag(rt.alloc(), &UNITS, Some(DW_TAG_compile_unit))?;
+    let absent = other_tag(rt.alloc(), &ABSENT, None)?;
+    no_row(unit.or(absent))?;
     assert_eq!(rt; other_end(rt.alloc())?, None);
+    let first = first_ones(rt.alloc())?;
+    assert_eq!(rt; first, [Ok(Some(0)), Ok(Some(5)), Ok(None), Err(BadTable)]);
     Ok(())
 }
