@@ -1,5 +1,5 @@
 //! What a timeline shows of each hart.
-ghost use Rattle.std.specs.Prelude.{◌≡◌, ◌<◌, ◌≤◌, max, [], length, All, IfOk, MatchOption, None};
+ghost use Rattle.std.specs.Prelude.{◌≡◌, ◌<◌, ◌≤◌, max, [], length, All, IfOk, MatchOption, None, Some, slice_get};
 ghost use Rattle.scope_types.specs.Limits.{most_samples};
 ghost use Rattle.scope_types.specs.declared.scope.Scope.TheVariants as scopes;
 ghost use Rattle.trace_lines.specs.Traces.{AreFinished, IsFinished, distinct_paths};
@@ -110,6 +110,7 @@ fn proc_of_place<E: Expand>(
         (distinct_paths hart.now.samples) known.new.items }
     ensures proc { IfOk result (λ proc. proc
         ≡ proc_at_depth depth (E.call_path expand.now (path_at (distinct_paths hart.now.samples) place))) }
+    ensures kept { IfOk result (λ proc. slice_get known.new.items place ≡ Some (Some proc)) }
 {
     if let Some(proc) = known[place as usize] {
         return Ok(proc);
