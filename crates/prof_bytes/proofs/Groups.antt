@@ -1,9 +1,9 @@
 -- The bytes after the first ten don't count for a number at the front.
 use Rattle.std.proofs.Common.{◌≡◌, ℕ, zero, suc, ◌⊎◌, inl, inr, ◌+◌, ◌<◌, ◌≤◌, Bool, true, false, List, [], ◌∷◌, length, take, Option, Some, None, refl, sym, ap, ◌∙◌, arith}
-use Rattle.std.specs.Prelude.{option_and_then, ◌%◌, ◌^◌, ◌*◌}
+use Rattle.std.specs.Prelude.{option_and_then, ◌%◌, ◌^◌, ◌*◌, ◌-◌, ℤ, pos, ◌-ℤ◌, nat_lt, if◌then◌else◌}
 use Rattle.std.proofs.Math.Nat.{mod-eq_of_lt}
 use Rattle.std.specs.List.{position_or_len}
-use Rattle.std.proofs.lemmas.Bool.{cases_lt, lt-ltb, le-ltb, lt-leb}
+use Rattle.std.proofs.lemmas.Bool.{cases_lt, lt-ltb, le-ltb, lt-leb, le-leb}
 use Rattle.std.proofs.lemmas.List.{length-take-le, length-take, take-take}
 use Rattle.prof_bytes.specs.Leb.{leb_group, is_last, unsigned_of, signed_of, uleb_at, sleb_at}
 
@@ -73,3 +73,19 @@ only_byte byte last =
 -- a number of one byte
 pub one_byte : (byte : ℕ) (rest : List ℕ) → byte < 128 → Some (byte, 1) ≡ uleb_at (byte ∷ rest)
 one_byte byte rest last = sym (ap (option_and_then unsigned_of) (some_in (byte ∷ rest) 0 (rw (lt-ltb byte 128 last) refl) (omega arith)) ∙ only_byte byte last)
+
+-- the signed number of one byte
+abbrev pub signed_byte : ℕ → ℤ
+signed_byte byte = if nat_lt byte 64 then pos byte else pos byte -ℤ pos 128
+
+only_signed_byte : (byte : ℕ) → byte < 128 → signed_of (byte ∷ []) ≡ Some (signed_byte byte, 1)
+only_signed_byte byte last =
+    let value : byte % 128 + 128 * 0 ≡ byte = ap (λ (n : ℕ). n + 128 * 0) (mod-eq_of_lt last) ∙ omega arith in
+    elim (cases_lt byte 64) [
+      | inl low ↦ rw (value, lt-ltb byte 64 low, lt-leb (128 ^ 1) (2 * byte) (omega arith), lt-ltb byte (2 ^ 63) (omega arith)) refl
+      | inr high ↦ rw (value, le-ltb byte 64 high, le-leb (128 ^ 1) (2 * byte) (omega arith), le-leb (128 ^ 1 - byte) (2 ^ 63) (omega arith)) refl
+    ]
+
+-- a signed number of one byte
+pub one_signed_byte : (byte : ℕ) (rest : List ℕ) → byte < 128 → Some (signed_byte byte, 1) ≡ sleb_at (byte ∷ rest)
+one_signed_byte byte rest last = sym (ap (option_and_then signed_of) (some_in (byte ∷ rest) 0 (rw (lt-ltb byte 128 last) refl) (omega arith)) ∙ only_signed_byte byte last)

@@ -1,5 +1,5 @@
 //! LEB128 numbers at the front of bytes, by DWARF 5, section 7.6.
-ghost use Rattle.std.specs.Prelude.{◌≡◌, ◌<◌, ◌≤◌, ◌-◌, ◌^◌, ◌-ℤ◌, pos, IfSome, Some, None, if◌then◌else◌, nat_le};
+ghost use Rattle.std.specs.Prelude.{◌≡◌, ◌<◌, ◌≤◌, ◌-◌, ◌^◌, ◌-ℤ◌, pos, IfSome, Some, None, if◌then◌else◌, nat_le, nat_lt};
 ghost use Rattle.std.specs.Prelude.{length, position, take};
 ghost use Rattle.std.specs.Option.{option_copied};
 ghost use Rattle.prof_bytes.specs.Leb.{is_last, leb_group, seven_bits, unsigned_of, signed_of, uleb_at, sleb_at, span};
@@ -115,10 +115,31 @@ fn signed(group: &[u8]) -> Option<(i64, usize)>
     Some((value as i64, group.len()))
 }
 
-/// The signed number at the front. Looks at ten bytes at most.
 #[tactic(auto, using(crate::proofs::Groups::signed_in_ten))]
-pub(crate) fn sleb_front(bytes: &[u8]) -> Option<(i64, usize)>
+fn any_sleb_front(bytes: &[u8]) -> Option<(i64, usize)>
     ensures { result ≡ sleb_at bytes.now }
 {
     signed(group_front(front(bytes))?)
+}
+
+/// The signed number of a single byte.
+fn signed_byte(byte: u8) -> i64
+    requires { byte < 128 }
+    ensures { result ≡ (if nat_lt byte 64 then pos byte else pos byte -ℤ pos 128) }
+{
+    if byte < 64 {
+        return i64::from(byte);
+    }
+    i64::from(byte) - 128
+}
+
+/// The signed number at the front. Looks at ten bytes at most; one of a single byte, as most are, is read at once.
+#[tactic(auto, using(crate::proofs::Groups::one_signed_byte))]
+pub(crate) fn sleb_front(bytes: &[u8]) -> Option<(i64, usize)>
+    ensures { result ≡ sleb_at bytes.now }
+{
+    match bytes {
+        [byte, ..] if *byte < 128 => Some((signed_byte(*byte), 1)),
+        _ => any_sleb_front(bytes),
+    }
 }
