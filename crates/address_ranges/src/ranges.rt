@@ -129,7 +129,9 @@ fn overlay(alloc: Global, upper: &[Step], lower: &[Step]) -> Result<Vec<Step>, A
         → holder_from None steps.items address
         ≡ option_or (holder_from None upper.now address) (holder_from None lower.now address)) }
 {
-    let mut steps = Vec::new(alloc);
+    let most = upper.len().saturating_add(lower.len());
+    // room: `most`, a step for each of both
+    let mut steps = Vec::with_capacity(alloc, most)?;
     let (mut upper_left, mut lower_left) = (upper, lower);
     let (mut upper_holder, mut lower_holder) = (None, None);
     while let Some(start) = next_start(upper_left, lower_left) {
