@@ -84,8 +84,13 @@ impl From<Memory> for ReadStop {
     }
 }
 
-/// Reads on, at most `most` bytes. False where the source is at its end.
-fn read_part<S: Source>(source: &mut S, bytes: &mut Vec<u8>, most: usize) -> Result<bool, ReadStop>
+/// Reads on, at most `most` bytes, by way of `part`. False where the source is at its end.
+fn read_part<S: Source>(
+    source: &mut S,
+    part: &mut [u8; PART],
+    bytes: &mut Vec<u8>,
+    most: usize,
+) -> Result<bool, ReadStop>
     requires { 0 < most }
     ensures read { OnOk result (TakesFrom (S.left source.old) (S.left source.new) bytes.old.items bytes.new.items) }
     ensures few { OnOk result (length bytes.new.items ≤ length bytes.old.items + most) }
@@ -94,7 +99,6 @@ fn read_part<S: Source>(source: &mut S, bytes: &mut Vec<u8>, most: usize) -> Res
     ensures ok { OnOk result (S.has_failed source.new ≡ S.has_failed source.old) }
     ensures err { IfErr result (λ stop. S.has_failed source.new ≡ (S.has_failed source.old || is_failure stop)) }
 {
-    let mut part = [0; PART];
     match source.read_some(&mut part[..most.min(PART)]) {
         Some(0) => Ok(false),
         Some(count) => match bytes.extend_from_slice(&part[..count]) {
@@ -114,9 +118,10 @@ fn read_front<S: Source>(alloc: Global, source: &mut S, limit: u64) -> Result<Ve
     ensures err { IfErr result (λ stop. S.has_failed source.new ≡ (S.has_failed source.old || is_failure stop)) }
 {
     let mut bytes = Vec::new(alloc);
+    let mut part = [0; PART];
     while bytes.len() as u64 <= limit {
         let most = (limit - bytes.len() as u64).saturating_add(1);
-        if !read_part(source, &mut bytes, most as usize)? {
+        if !read_part(source, &mut part, &mut bytes, most as usize)? {
             return Ok(bytes);
         }
     }
