@@ -132,8 +132,10 @@ pub(crate) fn intervals_of(
 {
     let events = events_of(alloc, structure)?;
     let mut held = BTreeSet::new(alloc);
+    // room: `events.len()`, an interval for each event
+    let intervals = Vec::with_capacity(alloc, events.len())?;
     let mut found = AddressIntervals {
-        intervals: Vec::new(alloc),
+        intervals,
         lists: IndexSet::new(alloc),
     };
     for index in 0..events.len() {

@@ -4,7 +4,7 @@ use Rattle.scope_find.proofs.IntervalsMade.{swept_first, swept_all}
 use Rattle.scope_find.proofs.intervals.intervals_of.Goals as goal
 
 pub loop-index-init : goal.loop-index-init
-loop-index-init c = swept_first c.args.structure.now c.in_ok-events.events.items c.new-held.result.keys c.new.result.items (numbers_of c.new-2.result.keys) c.in_ok-events.ensures.events c.new-held.ensures.empty c.new.ensures.items
+loop-index-init c = swept_first c.args.structure.now c.in_ok-events.events.items c.new-held.result.keys c.in_ok-intervals.intervals.items (numbers_of c.new.result.keys) c.in_ok-events.ensures.events c.new-held.ensures.empty c.in_ok-intervals.ensures.items
 
 pub returns : goal.returns
 returns c = record {
