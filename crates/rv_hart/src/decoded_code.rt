@@ -83,7 +83,7 @@ fn decoded_words(
     // room: `count + 1`, the words that are decoded, and the one after them
     let mut words = Vec::with_capacity(alloc, count + 1)?;
     for index in 0..count {
-        words.push(decode(word_in(bytes, index)))?;
+        words.push_reserved(decode(word_in(bytes, index)));
     }
     Ok(words)
 }
