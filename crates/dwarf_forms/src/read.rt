@@ -9,6 +9,7 @@ use crate::encoding::{Encoding, NumberClass, Size, WordClass, encoding_of};
 use crate::value::{FormFault, Value};
 use prof_bytes::{Cursor, Reader};
 
+#[inline(always)]
 fn sized<F: Copy>(reader: &mut Reader<'_, F>, size: Size) -> Result<u64, F>
     ensures { GivesAt (λ n. n) result reader.new (sized_from size reader.old) }
 {
@@ -22,6 +23,7 @@ fn sized<F: Copy>(reader: &mut Reader<'_, F>, size: Size) -> Result<u64, F>
     }
 }
 
+#[inline(always)]
 fn word_value<'a>(number: u32, class: WordClass) -> Value<'a>
     ensures { form_value result ≡ word_value class number }
 {
@@ -34,6 +36,7 @@ fn word_value<'a>(number: u32, class: WordClass) -> Value<'a>
     }
 }
 
+#[inline(always)]
 fn number_value<'a>(number: u64, class: NumberClass) -> Value<'a>
     ensures { form_value result ≡ number_value class number }
 {
@@ -55,6 +58,7 @@ fn block<'a, F: Copy>(reader: &mut Reader<'a, F>, size: Size) -> Result<&'a [u8]
     reader.take(length as usize)
 }
 
+#[inline(always)]
 fn encoded<'a, F: Copy>(
     reader: &mut Reader<'a, F>,
     encoding: Encoding,
@@ -74,6 +78,7 @@ fn encoded<'a, F: Copy>(
     }
 }
 
+#[inline(always)]
 fn direct<'a, F: Copy>(
     reader: &mut Reader<'a, F>,
     form: u64,
@@ -98,6 +103,7 @@ fn named<'a, F: Copy>(reader: &mut Reader<'a, F>, form: u64, unknown: F) -> Resu
 }
 
 #[tactic(auto, unfolding(crate::specs::Values::value_from))]
+#[inline(always)]
 fn value<'a, F: Copy>(
     reader: &mut Reader<'a, F>,
     form: u64,
@@ -116,6 +122,7 @@ fn value<'a, F: Copy>(
 /// The value of this form (DWARF 5, section 7.5.6); the reader is then after it. `unknown` is the fault of a form
 /// that is not one of DWARF 5, or that `DW_FORM_indirect` may not name. `implicit` is the constant that the attribute's
 /// declaration has for the form `DW_FORM_implicit_const`.
+#[inline(always)]
 pub fn read_form<'a, F: Copy>(
     reader: &mut Reader<'a, F>,
     form: u64,
