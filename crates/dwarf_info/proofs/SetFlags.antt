@@ -10,7 +10,7 @@ use Rattle.std.proofs.lemmas.Option.{slice_get-get_or, get_or_from_slice_get, sl
 use Rattle.std.proofs.Math.Seq.{get_or-append_seam, drop-cons}
 use Rattle.std.proofs.Math.ListN.{get_or-append}
 use Rattle.std.specs.List.Sorted.{IsNonDecreasingBy, IsPartitionPoint}
-use Rattle.dwarf_info.specs.private.Starts.{set_from, AreCounts, IsCountUpTo}
+use Rattle.dwarf_info.specs.private.Starts.{set_from, AreCounts, AreListed, IsCountUpTo}
 
 -- ---- lists of flags
 
@@ -77,6 +77,12 @@ set_ends end zero (f ∷ flags) le ends (suc o) e = let l = ends (suc o) e in om
 set_ends end (suc i) (f ∷ flags) le ends zero e = omega arith
 set_ends zero (suc i) (f ∷ flags) le ends (suc o) e = let l = set_ends zero i flags (omega arith) (λ n s. let l = ends (suc n) s in omega arith) o e in omega arith
 set_ends (suc end) (suc i) (f ∷ flags) le ends (suc o) e = let l = set_ends end i flags (omega arith) (λ n s. let l = ends (suc n) s in omega arith) o e in omega arith
+
+-- ---- listing
+
+pub none_listed : (offsets listed : List ℕ) → listed ≡ [] → AreListed offsets listed
+none_listed offsets [] none k v e = let no : ◌≡◌ {A = Option ℕ} None (Some v) = e in absurd cc
+none_listed offsets (x ∷ xs) none k v e = absurd cc
 
 -- ---- finding
 

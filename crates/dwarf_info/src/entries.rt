@@ -17,6 +17,7 @@ use dwarf_forms::{Abbrev, Declarations};
 use prof_bytes::{Fail, Memory, Reader, push_some};
 
 /// An entry by its declaration, and the depth of what follows it.
+#[inline(always)]
 fn declared_entry(
     reader: &mut Reader<'_, InfoFault>,
     entry: InfoEntry,
@@ -42,6 +43,7 @@ fn declared_entry(
 
 /// The entry that begins here, `None` for a null entry; and the depth of what follows it.
 #[tactic(auto, unfolding(crate::specs::Entries::entry_from))]
+#[inline(always)]
 pub(crate) fn read_entry(
     reader: &mut Reader<'_, InfoFault>,
     table: &Declarations<'_>,

@@ -35,9 +35,9 @@ use std::marker::Model;
 
 /// An entry: its index, its unit and its offset.
 #[derive(Clone, Copy)]
-pub(crate) struct Located {
+pub(crate) struct Located<'i> {
     index: u32,
-    context: UnitContext,
+    context: &'i UnitContext,
     offset: u32,
 }
 
@@ -175,7 +175,7 @@ impl<'a> Info<'a> {
     }
 
     /// The entry with an index, its unit and its offset.
-    fn located(&self, i: u32) -> Option<Located>
+    fn located(&self, i: u32) -> Option<Located<'_>>
         ensures entry { option_map found_unit result ≡ option_map own_unit (unit_entry self.now i) }
         ensures index { IfSome result (λ l. l.index ≡ i) }
     {
@@ -183,16 +183,16 @@ impl<'a> Info<'a> {
         let unit = count_up_to(self.firsts.as_slice(), i).checked_sub(1)?;
         Some(Located {
             index: i,
-            context: self.contexts[unit],
+            context: &self.contexts[unit],
             offset,
         })
     }
 
     /// The first value of an attribute of an entry.
-    fn value(&self, at: Located, attribute: u64) -> Option<Value<'a>>
+    fn value(&self, at: Located<'_>, attribute: u64) -> Option<Value<'a>>
         requires { IsLocated self.now at }
         ensures { option_map form_value result
-            ≡ option_and_then (attribute_value self.now attribute) (unit_entry self.now at.index) }
+            ≡ option_and_then (attribute_value self.now attribute) (unit_entry self.now at.entry.index) }
     {
         tabled_value(
             &self.sections,
@@ -203,36 +203,36 @@ impl<'a> Info<'a> {
         )
     }
 
-    fn text(&self, at: Located, attribute: u64) -> Option<&'a [u8]>
+    fn text(&self, at: Located<'_>, attribute: u64) -> Option<&'a [u8]>
         requires { IsLocated self.now at }
         ensures { option_copied result
-            ≡ option_and_then (attribute_text self.now attribute) (unit_entry self.now at.index) }
+            ≡ option_and_then (attribute_text self.now attribute) (unit_entry self.now at.entry.index) }
     {
         let value = self.value(at, attribute)?;
         text_value(&self.sections, at.context.str_offsets_base, value)
     }
 
-    fn reference(&self, at: Located, attribute: u64) -> Option<u32>
+    fn reference(&self, at: Located<'_>, attribute: u64) -> Option<u32>
         requires { IsLocated self.now at }
-        ensures { result ≡ option_and_then (attribute_entry self.now attribute) (unit_entry self.now at.index) }
+        ensures { result ≡ option_and_then (attribute_entry self.now attribute) (unit_entry self.now at.entry.index) }
     {
         let value = self.value(at, attribute)?;
         referred(&self.offsets, at.context.header.offset, value)
     }
 
-    fn constant(&self, at: Located, attribute: u64) -> Option<u32>
+    fn constant(&self, at: Located<'_>, attribute: u64) -> Option<u32>
         requires { IsLocated self.now at }
-        ensures { result ≡ attribute_number self.now attribute at.index }
+        ensures { result ≡ attribute_number self.now attribute at.entry.index }
     {
         let value = self.value(at, attribute)?;
         constant_value(value)
     }
 
     /// The ranges of the list that `DW_AT_ranges` gives, unless it is malformed.
-    fn range_list(&self, alloc: Global, at: Located) -> Result<Option<Vec<(u32, u32)>>, Memory>
+    fn range_list(&self, alloc: Global, at: Located<'_>) -> Result<Option<Vec<(u32, u32)>>, Memory>
         requires { IsLocated self.now at }
         ensures { IfOk result (λ o. option_map (λ v. v.items) o
-            ≡ option_and_then (attribute_ranges self.now) (unit_entry self.now at.index)) }
+            ≡ option_and_then (attribute_ranges self.now) (unit_entry self.now at.entry.index)) }
     {
         let Some(value) = self.value(at, DW_AT_ranges) else {
             return Ok(None);
@@ -244,18 +244,18 @@ impl<'a> Info<'a> {
         }
     }
 
-    fn low_pc(&self, at: Located) -> Option<u32>
+    fn low_pc(&self, at: Located<'_>) -> Option<u32>
         requires { IsLocated self.now at }
-        ensures { result ≡ option_and_then (low_pc_of self.now) (unit_entry self.now at.index) }
+        ensures { result ≡ option_and_then (low_pc_of self.now) (unit_entry self.now at.entry.index) }
     {
         let value = self.value(at, DW_AT_low_pc)?;
         address_value(&self.sections, at.context.addr_base, value)
     }
 
     /// The range from `DW_AT_low_pc` to `DW_AT_high_pc`.
-    fn low_high_pc(&self, at: Located) -> Option<(u32, u32)>
+    fn low_high_pc(&self, at: Located<'_>) -> Option<(u32, u32)>
         requires { IsLocated self.now at }
-        ensures { result ≡ option_and_then (low_high_of self.now) (unit_entry self.now at.index) }
+        ensures { result ≡ option_and_then (low_high_of self.now) (unit_entry self.now at.entry.index) }
     {
         let low = self.low_pc(at)?;
         let value = self.value(at, DW_AT_high_pc)?;

@@ -1,7 +1,7 @@
 //! The offsets of entries, found by their index, and their indices by their offset.
 ghost use Rattle.std.specs.Prelude.{◌≡◌, ◌==◌, ◌+◌, ◌<◌, ◌^◌, ℕ, length, filter, IfOk, position, slice_get};
 ghost use Rattle.std.specs.List.Sorted.{IsNonDecreasingBy};
-ghost use Rattle.dwarf_info.specs.private.Starts.{AreCounts, IsCountUpTo, set_from};
+ghost use Rattle.dwarf_info.specs.private.Starts.{AreCounts, AreListed, IsCountUpTo, set_from};
 
 use prof_bytes::Memory;
 use std::alloc::Global;
@@ -15,7 +15,11 @@ fn count_set(flags: &[bool]) -> u32
     requires { length flags.now < 2 ^ 31 }
     ensures { result ≡ length (filter (λ flag. flag) flags.now) }
 {
-    flags.iter().filter(|flag| **flag).count() as u32
+    let mut count = 0u32;
+    for flag in flags {
+        count += u32::from(*flag);
+    }
+    count
 }
 
 /// The number of flags that are set before each block.
@@ -95,7 +99,15 @@ fn offset_at(flags: &[bool], counts: &[u32], index: u32) -> Option<u32>
     nth_set(rest, from as u32, index - counts[block])
 }
 
-/// The offsets of entries, in order: a flag for each byte of their section. Contracts see them as a list.
+/// The element of a list with an index.
+fn listed_at(listed: &[u32], index: u32) -> Option<u32>
+    ensures { result ≡ slice_get listed.now index }
+{
+    listed.get(index as usize).copied()
+}
+
+/// The offsets of entries, in order: a flag for each byte of their section, and a list of the first of them. Contracts
+/// see them as a list.
 #[derive(Drop)]
 pub(crate) struct Offsets {
     flags: Vec<bool>,
@@ -103,24 +115,33 @@ pub(crate) struct Offsets {
     counts: Vec<u32>,
     /// How many flags are set.
     count: u32,
+    /// The first of the offsets, which are found without a search.
+    listed: Vec<u32>,
 }
 
 impl Model for Offsets {
     ghost use Rattle.std.specs.Prelude.{◌≡◌, ℕ, List, length};
-    ghost use Rattle.dwarf_info.specs.private.Starts.{AreCounts, set_from};
+    ghost use Rattle.dwarf_info.specs.private.Starts.{AreCounts, AreListed, set_from};
 
     ghost Value = { List ℕ };
 
     ghost view = { λ o. set_from 0 o.flags.items };
 
-    ghost invariant = { λ o. AreCounts o.flags.items o.counts.items × (o.count ≡ length (set_from 0 o.flags.items)) };
+    ghost invariant = { λ o. AreCounts o.flags.items o.counts.items × (o.count ≡ length (set_from 0 o.flags.items))
+        × AreListed (set_from 0 o.flags.items) o.listed.items };
 }
 
 impl Offsets {
-    /// The offsets whose flags are set; `count` is their number.
-    pub(crate) fn new(alloc: Global, flags: Vec<bool>, count: u32) -> Result<Offsets, Memory>
+    /// The offsets whose flags are set; `count` is their number, and the first of them are listed.
+    pub(crate) fn new(
+        alloc: Global,
+        flags: Vec<bool>,
+        count: u32,
+        listed: Vec<u32>,
+    ) -> Result<Offsets, Memory>
         requires few { length flags.items < 2 ^ 31 }
         requires counted { count ≡ length (set_from 0 flags.items) }
+        requires listed { AreListed (set_from 0 flags.items) listed.items }
         ensures { IfOk result (λ o. o ≡ set_from 0 flags.items) }
     {
         let counts = counts_of(alloc, flags.as_slice())?;
@@ -128,6 +149,7 @@ impl Offsets {
             flags,
             counts,
             count,
+            listed,
         })
     }
 
@@ -145,10 +167,13 @@ impl Offsets {
         index_at(self.flags.as_slice(), self.counts.as_slice(), offset)
     }
 
-    /// The offset with an index, by a binary search.
+    /// The offset with an index, by a binary search where it isn't listed.
     pub(crate) fn get(&self, index: u32) -> Option<u32>
         ensures { result ≡ slice_get self.now index }
     {
+        if let Some(offset) = listed_at(self.listed.as_slice(), index) {
+            return Some(offset);
+        }
         offset_at(self.flags.as_slice(), self.counts.as_slice(), index)
     }
 }

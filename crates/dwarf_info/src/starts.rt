@@ -1,12 +1,16 @@
 //! Where entries begin, marked while they are read.
-ghost use Rattle.std.specs.Prelude.{◌≡◌, ◌<◌, ◌≤◌, ◌++◌, ◌∷◌, ◌+◌, ◌^◌, [], length, IfOk};
+ghost use Rattle.std.specs.Prelude.{◌≡◌, ◌<◌, ◌≤◌, ◌++◌, ◌∷◌, ◌+◌, ◌^◌, ℕ, List, [], length, IfOk};
+ghost use Rattle.dwarf_info.specs.private.Starts.{AreListed};
 
 use crate::offsets::Offsets;
 use prof_bytes::Memory;
 use std::alloc::Global;
 use std::marker::Model;
 
-/// The offsets in a section at which entries begin, in order: a flag for each byte.
+/// Of how many bytes of the section there is one offset in the list, at most.
+const BYTES_FOR_LISTED: usize = 8;
+
+/// The offsets in a section at which entries begin, in order: a flag for each byte, and a list of the first of them.
 #[derive(Drop)]
 pub(crate) struct Starts {
     flags: Vec<bool>,
@@ -14,6 +18,8 @@ pub(crate) struct Starts {
     count: u32,
     /// No flag is set from this offset on.
     end: u32,
+    /// The first of the offsets.
+    listed: Vec<u32>,
 }
 
 impl Model for Starts {
@@ -28,7 +34,19 @@ impl Model for Starts {
       bytes = length s.flags.items;
     } };
 
-    ghost invariant = { λ s. AreMarks s.flags.items s.count s.end };
+    ghost invariant = { λ s. AreMarks s.flags.items s.listed.items s.count s.end };
+}
+
+/// Lists an offset after `count` others, if each of these is listed and there is room.
+fn list(listed: &mut Vec<u32>, room: usize, count: u32, offset: u32)
+    ensures { (offsets : List ℕ) → count ≡ length offsets → AreListed offsets listed.old.items
+        → AreListed (offsets ++ offset ∷ []) listed.new.items }
+{
+    if listed.len() != count as usize || listed.len() >= room {
+        return;
+    }
+    // without memory the other offsets are searched for
+    let _ = listed.push(offset);
 }
 
 impl Starts {
@@ -43,6 +61,7 @@ impl Starts {
             flags,
             count: 0,
             end: 0,
+            listed: Vec::new(alloc),
         })
     }
 
@@ -63,6 +82,8 @@ impl Starts {
           bytes = self.old.bytes;
         } }
     {
+        let room = self.flags.len() / BYTES_FOR_LISTED;
+        list(&mut self.listed, room, self.count, offset);
         self.flags[offset as usize] = true;
         self.count += 1;
         self.end = offset + 1;
@@ -72,6 +93,6 @@ impl Starts {
     pub(crate) fn offsets(self, alloc: Global) -> Result<Offsets, Memory>
         ensures { IfOk result (λ offsets. offsets ≡ self.offsets) }
     {
-        Offsets::new(alloc, self.flags, self.count)
+        Offsets::new(alloc, self.flags, self.count, self.listed)
     }
 }

@@ -46,12 +46,12 @@ fn listed_value<'a>(
     reader: &mut Reader<'a, FormFault>,
     section: &[u8],
     tables: &Tables,
-    context: UnitContext,
+    context: &UnitContext,
     attribute: u64,
 ) -> Option<Value<'a>>
     requires { AreTables section.now tables.now }
     ensures { option_map form_value result ≡ value_of attribute
-        (entry_values (or_none (table_at section.now context.header.debug_abbrev_offset)) reader.old) }
+        (entry_values (or_none (table_at section.now context.now.header.debug_abbrev_offset)) reader.old) }
 {
     let Ok(code) = reader.uleb() else {
         return None;
@@ -66,14 +66,14 @@ fn listed_value<'a>(
 pub(crate) fn tabled_value<'a>(
     sections: &DebugParts<'a>,
     tables: &Tables,
-    context: UnitContext,
+    context: &UnitContext,
     offset: u32,
     attribute: u64,
 ) -> Option<Value<'a>>
     requires { AreTables sections.now.«abbrev».now tables.now }
     ensures { option_map form_value result ≡ value_of attribute
-        (entry_values (or_none (table_at sections.now.«abbrev».now context.header.debug_abbrev_offset))
-        (section_up_to context.header.end sections.now.info.now offset Short)) }
+        (entry_values (or_none (table_at sections.now.«abbrev».now context.now.header.debug_abbrev_offset))
+        (section_up_to context.now.header.end sections.now.info.now offset Short)) }
 {
     let header = context.header;
     match tables.get(header.debug_abbrev_offset) {

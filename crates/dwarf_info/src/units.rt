@@ -36,6 +36,7 @@ use std::alloc::Global;
 
 /// The first value of an attribute of the entry at an offset, in a unit that ends at `end`.
 #[tactic(auto, using(crate::proofs::Past::no_value_past))]
+#[inline(always)]
 pub(crate) fn value_at<'a>(
     info: &'a [u8],
     table: &Declarations<'_>,

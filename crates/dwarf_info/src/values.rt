@@ -13,6 +13,7 @@ use crate::fault::InfoFault;
 use dwarf_forms::{BadTable, Declarations, FormFault, Spec, Specs, Value, read_form};
 use prof_bytes::Reader;
 
+#[inline(always)]
 fn one_value<'a, F: Copy>(
     reader: &mut Reader<'a, F>,
     spec: &Spec,
@@ -136,6 +137,7 @@ pub(crate) fn value_beside<'a>(
 }
 
 /// The first value of an attribute of the entry that begins here.
+#[inline(always)]
 pub(crate) fn entry_value<'a>(
     reader: &mut Reader<'a, FormFault>,
     table: &Declarations<'_>,

@@ -11,7 +11,7 @@ own_unit e = (e.context, e.entry.offset)
 
 -- the unit and the offset that were found
 abbrev pub found_unit : Located → UnitContext × ℕ
-found_unit at = (at.context, at.offset)
+found_unit at = (at.context.now, at.offset)
 
 -- it has the unit and the offset of the entry with its index
 abbrev pub IsLocated : DebugInfo → Located → Type 0

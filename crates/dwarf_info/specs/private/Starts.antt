@@ -14,9 +14,14 @@ pub record Marked : Type 0 where
   pub end : ℕ
   pub bytes : ℕ
 
--- how many flags are set, and none from an offset on
-pub record AreMarks (flags : List Bool) (count end : ℕ) : Type 0 where
+-- these are the first of some offsets
+abbrev pub AreListed : List ℕ → List ℕ → Type 0
+AreListed offsets listed = (k v : ℕ) → slice_get listed k ≡ Some v → slice_get offsets k ≡ Some v
+
+-- how many flags are set, and none from an offset on; the first of the offsets are listed
+pub record AreMarks (flags : List Bool) (listed : List ℕ) (count end : ℕ) : Type 0 where
   pub counted : count ≡ length (set_from 0 flags)
+  pub firsts : AreListed (set_from 0 flags) listed
   pub ends : (offset : ℕ) → slice_get flags offset ≡ Some true → offset < end
   pub few : length flags < 2 ^ 31
 
