@@ -51,6 +51,7 @@ fn number_value<'a>(number: u64, class: NumberClass) -> Value<'a>
     }
 }
 
+#[inline(always)]
 fn block<'a, F: Copy>(reader: &mut Reader<'a, F>, size: Size) -> Result<&'a [u8], F>
     ensures { GivesAt (λ bytes. bytes.now) result reader.new (sized_block_from size reader.old) }
 {
