@@ -55,6 +55,7 @@ fn pass_each(
 
 /// Skips the values of these attributes, in one step where their forms fix their number of bytes; `unknown` is the
 /// fault of an unknown form.
+#[inline(always)]
 pub(crate) fn pass_values(
     reader: &mut Reader<'_, InfoFault>,
     specs: &Specs,
@@ -77,6 +78,7 @@ fn spec_of(specs: &[Spec], attribute: u64) -> Option<&Spec>
 }
 
 /// The first value of an attribute among those of a declaration.
+#[inline(always)]
 fn value_by<'a>(
     reader: &mut Reader<'a, FormFault>,
     specs: &[Spec],
@@ -98,6 +100,7 @@ fn value_by<'a>(
 /// The first value of an attribute among those of a declaration; where the declaration lacks the attribute, no value is
 /// read.
 #[tactic(auto, using(crate::proofs::OneValue::not_declared))]
+#[inline(always)]
 fn declared_value<'a>(
     reader: &mut Reader<'a, FormFault>,
     specs: &[Spec],

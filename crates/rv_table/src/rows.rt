@@ -174,7 +174,7 @@ fn system(word: u32) -> Layout
 }
 
 /// Decodes any word by the table of RV32IM. Takes constant time.
-#[inline]
+#[inline(always)]
 pub fn decode(word: u32) -> Inst
     ensures row { result ≡ decoded word }
     ensures registers { HasRegisters result }
