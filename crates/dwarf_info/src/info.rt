@@ -175,6 +175,7 @@ impl<'a> Info<'a> {
     }
 
     /// The entry with an index, its unit and its offset.
+    #[inline(always)]
     fn located(&self, i: u32) -> Option<Located<'_>>
         ensures entry { option_map found_unit result ≡ option_map own_unit (unit_entry self.now i) }
         ensures index { IfSome result (λ l. l.index ≡ i) }
@@ -189,6 +190,7 @@ impl<'a> Info<'a> {
     }
 
     /// The first value of an attribute of an entry.
+    #[inline(always)]
     fn value(&self, at: Located<'_>, attribute: u64) -> Option<Value<'a>>
         requires { IsLocated self.now at }
         ensures { option_map form_value result
