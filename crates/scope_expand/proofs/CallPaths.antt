@@ -1,5 +1,5 @@
 -- The scopes of a raw path's frames, as they are appended.
-use Rattle.std.proofs.Common.{◌≡◌, ◌≤◌, ℕ, ◌-◌, List, [], ◌∷◌, ◌++◌, length, map, reverse, take, drop, get_or, refl, sym, ap, ◌∙◌, arith, take_all}
+use Rattle.std.proofs.Common.{◌≡◌, ◌≤◌, ℕ, ◌-◌, List, [], ◌∷◌, ◌++◌, length, map, reverse, take, drop, get_or, refl, sym, ap, ◌∙◌, arith, take_all, append_assoc}
 use Rattle.std.specs.List.{flat_map}
 use Rattle.std.proofs.lemmas.List.Concat.{flat_map-append}
 use mathlib.Core.List.{reverse-cons}
@@ -50,3 +50,9 @@ whole_path program raw root frames start before after some same end first caller
     parts (found_at program) root frames start before after some first callers d last
     ∙ ap (λ (fs : List Frame). expansion (found_at program) root (map pc_of fs)) same
     ∙ ap (λ (r : RootKind). expansion (found_at program) r (map pc_of raw.frames)) end
+
+-- scopes that are shared and others, after the root
+pub joined : (start shared others all upto before : List Scope) → upto ≡ start ++ shared → before ≡ upto ++ others → all ≡ shared ++ others
+    → before ≡ start ++ all
+joined start shared others all upto before first then whole =
+    then ∙ ap (λ (l : List Scope). l ++ others) first ∙ append_assoc start shared others ∙ ap (λ (l : List Scope). start ++ l) (sym whole)

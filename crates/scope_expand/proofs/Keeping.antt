@@ -1,62 +1,49 @@
--- What a memo keeps after a look-up, and after a put.
-use Rattle.std.proofs.Common.{◌≡◌, ℕ, Bool, List, Contains, Some, ◌⊎◌, inl, inr, sym, subst, ap, ◌∙◌, eqb, get_or}
-use Rattle.std.specs.Prelude.{All, Result, Ok, Err, OnOk, OnErr}
-use Rattle.std.specs.Map.{lookup}
-use Rattle.std.proofs.lemmas.Bool.{eqb-true}
-use Rattle.std.proofs.lemmas.List.Elements.{All-contains, Contains-get_or}
-use Rattle.lru.specs.LruCache.{LruCache, lru_cache, promoted, put_entries}
-use Rattle.lru.proofs.CallerLemmas.{Contains-lookup, Contains-promoted, Contains-put_entries, IsPut}
+-- What a memo keeps, as it is read and cut.
+use Rattle.std.proofs.Common.{◌≡◌, ◌<◌, ◌≤◌, ℕ, List, ◌++◌, Contains, length, take, drop, sym, ap, ◌∙◌, arith}
+use Rattle.std.specs.List.{flat_map}
+use Rattle.std.proofs.lemmas.List.{take-append-drop, take-append-le, length-take, get_or-take}
+use Rattle.std.proofs.lemmas.List.Concat.{flat_map-append}
+use Rattle.std.proofs.lemmas.List.Elements.{All-contains}
+use Rattle.std.proofs.Math.Seq.{take-append_seam}
 use Rattle.scope_find.specs.declared.found.Found.{Found}
 use Rattle.scope_find.specs.Found.{ProgramScopes, found_at}
 use Rattle.scope_find.specs.Views.{found_view}
-use Rattle.scope_types.specs.Expansion.{FoundAt}
-use Rattle.scope_expand.specs.Kept.{MemoFits}
+use Rattle.scope_types.specs.declared.scope.Scope.{Scope}
+use Rattle.scope_types.specs.declared.scope.Scope.TheVariants.{Call}
+use Rattle.scope_types.specs.Expansion.{frame_scopes}
+use Rattle.scope_expand.specs.declared.memo.KeptFound.{KeptFound}
+use Rattle.scope_expand.specs.declared.memo.KeptCaller.{KeptCaller}
+use Rattle.scope_expand.specs.Kept.{FoundFits, CallersFit, scopes_of_kept}
 
-module _ (at : ℕ → FoundAt) where
-  -- what is kept at an address is found there
-  abbrev IsFound : ℕ × Found → Type 0
-  IsFound kept = found_view kept.1 ≡ at kept.0
+-- what is kept of an address is what is found there
+pub found_hit : (program : ProgramScopes) (kept : List KeptFound) (pc : ℕ) (found : Found) → FoundFits program kept
+    → Contains kept (record { pc = pc; found = found }) → found_view found ≡ found_at program pc
+found_hit program kept pc found fits there =
+    All-contains (λ (k : KeptFound). found_view k.found ≡ found_at program k.pc) kept (record { pc = pc; found = found }) fits.found there
 
-  all_from : (es : List (ℕ × Found)) → ((e : ℕ × Found) → Contains es e → IsFound e) → All IsFound es
-  all_from es each k d lt = each (get_or es k d) (Contains-get_or es k d lt)
+module _ (program : ProgramScopes) where
+  abbrev called : KeptCaller → List Scope
+  called caller = frame_scopes Call (found_at program caller.pc)
 
-  found_of_hit : (es : List (ℕ × Found)) (pc : ℕ) (found : Found) → All IsFound es → lookup (eqb pc) es ≡ Some found → found_view found ≡ at pc
-  found_of_hit es pc found all hit =
-      let kept = Contains-lookup (eqb pc) es found hit in
-      All-contains IsFound es (kept.0, found) all kept.1 ∙ ap at (sym (eqb-true pc kept.0 kept.2))
+  take_twice : (k n : ℕ) (callers : List KeptCaller) → k ≤ length (take n callers) → take k (take n callers) ≡ take k callers
+  take_twice k n callers within = sym (take-append-le k (take n callers) (drop n callers) within) ∙ ap (take k) (take-append-drop n callers)
 
-  all_promoted : (es : List (ℕ × Found)) (test : ℕ → Bool) → All IsFound es → All IsFound (promoted test es)
-  all_promoted es test all = all_from (promoted test es) (λ e there. All-contains IsFound es e all (Contains-promoted test es e there))
+  front_scopes : (n : ℕ) (callers : List KeptCaller) → take (length (flat_map called (take n callers))) (flat_map called callers) ≡ flat_map called (take n callers)
+  front_scopes n callers =
+      let parts : flat_map called callers ≡ flat_map called (take n callers) ++ flat_map called (drop n callers) =
+      sym (ap (flat_map called) (take-append-drop n callers)) ∙ flat_map-append called (take n callers) (drop n callers) in
+      ap (take (length (flat_map called (take n callers)))) parts ∙ take-append_seam (flat_map called (take n callers)) (flat_map called (drop n callers))
 
-  is_put : (memo : LruCache ℕ Found) (pc : ℕ) (found : Found) (e : ℕ × Found) → All IsFound memo.entries → found_view found ≡ at pc
-      → Contains memo.entries e ⊎ IsPut eqb memo pc found e → IsFound e
-  is_put memo pc found e all is (inl there) = All-contains IsFound memo.entries e all there
-  is_put memo pc found e all is (inr (same, inl key)) = ap found_view same ∙ is ∙ ap at (sym key)
-  is_put memo pc found e all is (inr (same, inr (w, there, key))) = ap found_view same ∙ is ∙ ap at (eqb-true pc e.0 key)
-
-  all_put : (memo : LruCache ℕ Found) (pc : ℕ) (found : Found) → All IsFound memo.entries → found_view found ≡ at pc
-      → All IsFound (put_entries eqb memo pc found)
-  all_put memo pc found all is = all_from (put_entries eqb memo pc found)
-      (λ e there. is_put memo pc found e all is (Contains-put_entries eqb memo pc found e there))
-
--- what a look-up finds is what is found there
-pub fits_hit : (program : ProgramScopes) (memo : LruCache ℕ Found) (pc : ℕ) (found : Found)
-    → MemoFits program memo → lookup (eqb pc) memo.entries ≡ Some found → found_view found ≡ found_at program pc
-fits_hit program memo pc found fits hit = found_of_hit (found_at program) memo.entries pc found fits.found hit
-
--- a look-up moves a pair to the front, and no more
-pub fits_promoted : (program : ProgramScopes) (memo : LruCache ℕ Found) (test : ℕ → Bool)
-    → MemoFits program memo → MemoFits program (lru_cache (promoted test memo.entries) memo.cap)
-fits_promoted program memo test fits = record { cap = fits.cap; found = all_promoted (found_at program) memo.entries test fits.found }
-
--- a put of what is found
-pub fits_put : (program : ProgramScopes) (memo : LruCache ℕ Found) (pc : ℕ) (found : Found) → MemoFits program memo → found_view found ≡ found_at program pc
-    → MemoFits program (lru_cache (put_entries eqb memo pc found) memo.cap)
-fits_put program memo pc found fits is = record { cap = fits.cap; found = all_put (found_at program) memo pc found fits.found is }
-
--- and whether memory was found for it or not
-pub fits_after_put : (program : ProgramScopes) (old new : LruCache ℕ Found) (pc : ℕ) (found : Found) {T E : Type 0} (result : Result T E)
-    → OnOk result (new ≡ lru_cache (put_entries eqb old pc found) old.cap) → OnErr result (new ≡ old)
-    → MemoFits program old → found_view found ≡ found_at program pc → MemoFits program new
-fits_after_put program old new pc found (Ok x) after same fits is = subst (MemoFits program) (sym after) (fits_put program old pc found fits is)
-fits_after_put program old new pc found (Err e) after same fits is = subst (MemoFits program) (sym same) fits
+-- the outermost callers with their scopes
+pub callers_cut : (program : ProgramScopes) (callers : List KeptCaller) (scopes : List Scope) (n end : ℕ) → CallersFit program callers scopes
+    → end ≡ length (scopes_of_kept program (take n callers)) → CallersFit program (take n callers) (take end scopes)
+callers_cut program callers scopes n end fits is = record {
+  scopes = ap (λ (e : ℕ). take e scopes) is ∙ ap (take (length (scopes_of_kept program (take n callers)))) fits.scopes ∙ front_scopes program n callers;
+  begins = λ k none lt.
+      let both = length-take n callers in
+      let less : k < n = omega (arith, lt, both) in
+      let inside : k < length callers = omega (arith, lt, both) in
+      let within : k ≤ length (take n callers) = omega (arith, lt) in
+      ap (λ (c : KeptCaller). c.begin) (get_or-take n callers k none less) ∙ fits.begins k none inside
+      ∙ ap (λ (cs : List KeptCaller). length (scopes_of_kept program cs)) (sym (take_twice program k n callers within));
+}

@@ -7,25 +7,19 @@ ghost use Rattle.scope_find.specs.Views.{found_view};
 ghost use Rattle.tree_types.specs.Database.{names_used};
 ghost use Rattle.tree_types.specs.Nodes.{nodes};
 ghost use Rattle.tree_types.specs.PathsOf.{tree_paths};
-ghost use Rattle.scope_expand.specs.Kept.{MemoFits};
+ghost use Rattle.scope_types.specs.declared.scope.Scope.TheVariants as scope;
+ghost use Rattle.scope_expand.specs.Kept.{FoundFits, CallersFit};
 ghost use Rattle.scope_expand.specs.TreeNames.{node_names};
 ghost use Rattle.scope_expand.specs.private.Frames.{caller_scopes, last_scope};
 
+use crate::memo::{FoundCache, LastCallers, Memo};
 use crate::names::node_names;
-use lru::LruCache;
 use prof_bytes::Memory;
 use scope_find::{Finder, Found};
 use scope_types::{End, Expand, Frame, LineId, RawPath, RootKind, Scope, ScopePath};
 use std::alloc::Global;
 use std::marker::Model;
-use std::num::NonZeroUsize;
 use tree_types::{Names, Tree};
-
-/// How many addresses a memo keeps.
-const MOST_KEPT: usize = 4_096;
-
-/// What was found at addresses, the one that was used last first.
-type Kept = LruCache<u32, Found>;
 
 /// What expands raw paths to call paths by the scopes that a finder finds at their addresses. Contracts see it as what
 /// the finder knows of the program.
@@ -89,65 +83,94 @@ fn put_found(scopes: &mut Vec<Scope>, found: &Found, kind: FrameKind) -> Result<
 /// Appends the scopes of a frame. What is found at its address is kept, where memory is found for it.
 fn put_frame(
     finder: &Finder<'_>,
-    memo: &mut Kept,
+    cache: &mut FoundCache,
     scopes: &mut Vec<Scope>,
     pc: u32,
     kind: FrameKind,
 ) -> Result<(), Memory>
-    requires { MemoFits finder.now memo.old }
-    ensures memo { MemoFits finder.now memo.new }
+    requires { FoundFits finder.now cache.old.kept.items }
+    ensures cache { FoundFits finder.now cache.new.kept.items }
     ensures scopes { OnOk result (scopes.new.items
         ≡ scopes.old.items ++ frame_scopes (last_scope kind) (found_at finder.now pc)) }
 {
-    if let Some(found) = memo.get(&pc) {
+    if let Some(found) = cache.get(pc) {
         return put_found(scopes, found, kind);
     }
     let found = finder.scopes_at(pc)?;
     put_found(scopes, &found, kind)?;
-    let _ = memo.put(pc, found);
+    cache.keep(pc, found);
+    Ok(())
+}
+
+/// Appends the scopes of a caller, which is kept after the last ones.
+fn put_caller(
+    finder: &Finder<'_>,
+    cache: &mut FoundCache,
+    last: &mut LastCallers,
+    scopes: &mut Vec<Scope>,
+    pc: u32,
+) -> Result<(), Memory>
+    requires found { FoundFits finder.now cache.old.kept.items }
+    requires callers { CallersFit finder.now last.old.callers.items last.old.scopes.items }
+    ensures found { FoundFits finder.now cache.new.kept.items }
+    ensures callers { CallersFit finder.now last.new.callers.items last.new.scopes.items }
+    ensures scopes { OnOk result (scopes.new.items
+        ≡ scopes.old.items ++ frame_scopes scope.Call (found_at finder.now pc)) }
+{
+    let begin = scopes.len();
+    put_frame(finder, cache, scopes, pc, FrameKind::Caller)?;
+    last.keep(pc, &scopes[begin..]);
     Ok(())
 }
 
 /// Appends the scopes of callers, which are innermost first, from the outermost in.
 fn put_callers(
     finder: &Finder<'_>,
-    memo: &mut Kept,
+    cache: &mut FoundCache,
+    last: &mut LastCallers,
     scopes: &mut Vec<Scope>,
     callers: &[Frame],
 ) -> Result<(), Memory>
-    requires { MemoFits finder.now memo.old }
-    ensures memo { MemoFits finder.now memo.new }
+    requires found { FoundFits finder.now cache.old.kept.items }
+    requires callers { CallersFit finder.now last.old.callers.items last.old.scopes.items }
+    ensures found { FoundFits finder.now cache.new.kept.items }
+    ensures callers { CallersFit finder.now last.new.callers.items last.new.scopes.items }
     ensures scopes { OnOk result (scopes.new.items
         ≡ scopes.old.items ++ caller_scopes finder.now (reverse callers.now)) }
 {
     for caller in callers.iter().rev() {
-        put_frame(finder, memo, scopes, caller.pc, FrameKind::Caller)?;
+        put_caller(finder, cache, last, scopes, caller.pc)?;
     }
     Ok(())
 }
 
-/// The call path of a raw path.
+/// The call path of a raw path. The scopes of the outermost callers that the path before it has too are copied.
 fn expand_with(
     alloc: Global,
     finder: &Finder<'_>,
-    memo: &mut Kept,
+    cache: &mut FoundCache,
+    last: &mut LastCallers,
     raw: &RawPath,
 ) -> Result<ScopePath, Memory>
-    requires { MemoFits finder.now memo.old }
-    ensures memo { MemoFits finder.now memo.new }
+    requires found { FoundFits finder.now cache.old.kept.items }
+    requires callers { CallersFit finder.now last.old.callers.items last.old.scopes.items }
+    ensures found { FoundFits finder.now cache.new.kept.items }
+    ensures callers { CallersFit finder.now last.new.callers.items last.new.scopes.items }
     ensures path { IfOk result (λ path. path ≡ call_path (found_at finder.now) raw.now) }
 {
-    let frames = raw.frames();
-    // room: `1 + 2 * frames.len()`, the root and the least scopes of each frame
-    let mut scopes = Vec::with_capacity(alloc, 1 + 2 * frames.len())?;
-    scopes.push(Scope::Root(root_of(raw.end())))?;
-    let [innermost, callers @ ..] = frames else {
-        return Ok(ScopePath::of(scopes));
+    let [innermost, callers @ ..] = raw.frames() else {
+        unreachable!()
     };
-    put_callers(finder, memo, &mut scopes, callers)?;
+    let others = last.share(callers);
+    let shared = last.scopes();
+    // room: the root, the scopes that are copied, and the least scopes of each other frame
+    let mut scopes = Vec::with_capacity(alloc, 1 + shared.len() + 2 * (others.len() + 1))?;
+    scopes.push(Scope::Root(root_of(raw.end())))?;
+    scopes.extend_from_slice(shared)?;
+    put_callers(finder, cache, last, &mut scopes, others)?;
     put_frame(
         finder,
-        memo,
+        cache,
         &mut scopes,
         innermost.pc,
         FrameKind::Innermost,
@@ -189,22 +212,27 @@ impl<'a> Expand for Expander<'a> {
     ghost use Rattle.scope_find.specs.Found.{found_at};
     ghost use Rattle.scope_expand.specs.Kept.{MemoFits};
 
-    /// What was found at the addresses that were used last, of at most 4,096.
-    type Memo = Kept;
+    type Memo = Memo;
 
     ghost call_path = { λ program raw. call_path (found_at program) raw };
 
     ghost fits = { λ program memo. MemoFits program memo };
 
-    fn fresh(&self) -> Result<Kept, Memory> {
-        Ok(Kept::sparse(self.alloc, NonZeroUsize::new(MOST_KEPT).unwrap())?)
+    fn fresh(&self) -> Result<Memo, Memory> {
+        Memo::empty(self.alloc)
     }
 
     fn length(&self, raw: &RawPath) -> u64 {
         length_of(self.finder, raw)
     }
 
-    fn expand(&self, memo: &mut Kept, raw: &RawPath) -> Result<ScopePath, Memory> {
-        expand_with(self.alloc, self.finder, memo, raw)
+    fn expand(&self, memo: &mut Memo, raw: &RawPath) -> Result<ScopePath, Memory> {
+        expand_with(
+            self.alloc,
+            self.finder,
+            &mut memo.found,
+            &mut memo.last,
+            raw,
+        )
     }
 }

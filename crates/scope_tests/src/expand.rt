@@ -28,43 +28,113 @@ fn raw_of(alloc: Global, end: End, pcs: &[u32]) -> Result<RawPath, Unread> {
     Ok(RawPath::of(end, frames))
 }
 
-/// A line of the table's first file.
-fn line(line: u32) -> LineId {
-    LineId::Row {
-        table: 0,
-        file: 0,
-        line,
-    }
-}
+/// Lines of the table's first file.
+const LINE_3: LineId = LineId::Row {
+    table: 0,
+    file: 0,
+    line: 3,
+};
+
+const LINE_7: LineId = LineId::Row {
+    table: 0,
+    file: 0,
+    line: 7,
+};
+
+const LINE_8: LineId = LineId::Row {
+    table: 0,
+    file: 0,
+    line: 8,
+};
+
+const LINE_11: LineId = LineId::Row {
+    table: 0,
+    file: 0,
+    line: 11,
+};
+
+const WHOLE: Scope = Scope::Root(RootKind::Thread);
+
+const PARTIAL: Scope = Scope::Root(RootKind::Partial);
+
+const MAIN: Scope = Scope::Proc(ProcId::Die(0x21));
+
+const OUTER: Scope = Scope::Inline {
+    callee: ProcId::Die(0x19),
+    call: LINE_3,
+};
+
+const INNER: Scope = Scope::Inline {
+    callee: ProcId::Die(0x11),
+    call: LINE_11,
+};
+
+const CALL_7: Scope = Scope::Call(LINE_7);
+
+const CALL_8: Scope = Scope::Call(LINE_8);
+
+const STMT_7: Scope = Scope::Stmt(LINE_7);
+
+const STMT_8: Scope = Scope::Stmt(LINE_8);
+/// An address of no line.
+const CALL_24: Scope = Scope::Call(LineId::Address(0x1_0024));
+
+const STMT_24: Scope = Scope::Stmt(LineId::Address(0x1_0024));
 
 /// Three frames: at line 7; at line 8 within `outer`; and, where no line is known, within `inner` within `outer`.
-fn nested() -> [Scope; 10] {
-    [
-        Scope::Root(RootKind::Partial),
-        Scope::Proc(ProcId::Die(0x21)),
-        Scope::Call(line(7)),
-        Scope::Proc(ProcId::Die(0x21)),
-        Scope::Inline {
-            callee: ProcId::Die(0x19),
-            call: line(3),
-        },
-        Scope::Call(line(8)),
-        Scope::Proc(ProcId::Die(0x21)),
-        Scope::Inline {
-            callee: ProcId::Die(0x19),
-            call: line(3),
-        },
-        Scope::Inline {
-            callee: ProcId::Die(0x11),
-            call: line(11),
-        },
-        Scope::Stmt(LineId::Address(0x1_0024)),
-    ]
+static NESTED_FRAMES: [u32; 3] = [0x1_0024, 0x1_000c, 0x1_0004];
+
+static NESTED: [Scope; 10] = [
+    PARTIAL, MAIN, CALL_7, MAIN, OUTER, CALL_8, MAIN, OUTER, INNER, STMT_24,
+];
+
+/// A path that is expanded after the three frames, and its scopes.
+struct Second {
+    end: End,
+    frames: &'static [u32],
+    scopes: &'static [Scope],
 }
+
+const NO_FDE: End = End::Partial(PartialCause::NoFde);
+
+/// The front of the three frames.
+static FRONT: Second = Second {
+    end: NO_FDE,
+    frames: &[0x1_000c, 0x1_0004],
+    scopes: &[PARTIAL, MAIN, CALL_7, MAIN, OUTER, STMT_8],
+};
+
+static OTHER_END: Second = Second {
+    end: NO_FDE,
+    frames: &[0x1_0004, 0x1_000c, 0x1_0004],
+    scopes: &[PARTIAL, MAIN, CALL_7, MAIN, OUTER, CALL_8, MAIN, STMT_7],
+};
+
+static OTHER_CALLER: Second = Second {
+    end: NO_FDE,
+    frames: &[0x1_000c, 0x1_0004, 0x1_0004],
+    scopes: &[PARTIAL, MAIN, CALL_7, MAIN, CALL_7, MAIN, OUTER, STMT_8],
+};
+/// The three frames call one more.
+static DEEPER: Second = Second {
+    end: NO_FDE,
+    frames: &[0x1_0004, 0x1_0024, 0x1_000c, 0x1_0004],
+    scopes: &[
+        PARTIAL, MAIN, CALL_7, MAIN, OUTER, CALL_8, MAIN, OUTER, INNER, CALL_24, MAIN, STMT_7,
+    ],
+};
+
+static OTHER_ROOT: Second = Second {
+    end: End::Whole,
+    frames: &[0x1_0024, 0x1_000c, 0x1_0004],
+    scopes: &[
+        WHOLE, MAIN, CALL_7, MAIN, OUTER, CALL_8, MAIN, OUTER, INNER, STMT_24,
+    ],
+};
 
 /// No procedure and no line.
 static OUTSIDE: [Scope; 3] = [
-    Scope::Root(RootKind::Thread),
+    WHOLE,
     Scope::Proc(ProcId::Nameless),
     Scope::Stmt(LineId::Address(0x2_0000)),
 ];
@@ -123,6 +193,7 @@ fn other_in_turn(alloc: Global, expander: &Expander<'_>) -> Result<Option<u32>, 
 /// Paths of the worked program.
 enum Case {
     Nested,
+    After(&'static Second),
     Outside,
     Long,
     InTurn,
@@ -130,9 +201,18 @@ enum Case {
 
 /// Whether inlined calls of a caller and of the innermost frame are scopes of their path.
 fn nested_is_path(alloc: Global, expander: &Expander<'_>) -> Result<bool, Unread> {
-    let end = End::Partial(PartialCause::NoFde);
-    let raw = raw_of(alloc, end, &[0x1_0024, 0x1_000c, 0x1_0004])?;
-    Ok(is_path(expander, &raw, &nested())?)
+    let raw = raw_of(alloc, NO_FDE, &NESTED_FRAMES)?;
+    Ok(is_path(expander, &raw, &NESTED)?)
+}
+
+/// Whether a path has its scopes with a memo of the three frames.
+fn second_is_path(alloc: Global, expander: &Expander<'_>, second: &Second) -> Result<bool, Unread> {
+    let before = raw_of(alloc, NO_FDE, &NESTED_FRAMES)?;
+    let raw = raw_of(alloc, second.end, second.frames)?;
+    let mut memo = expander.fresh()?;
+    let first = has_scopes(expander.expand(&mut memo, &before), &NESTED)?;
+    let then = has_scopes(expander.expand(&mut memo, &raw), second.scopes)?;
+    Ok(first && then)
 }
 
 /// Whether an address outside the program has no procedure and no line.
@@ -145,6 +225,7 @@ fn outside_is_path(alloc: Global, expander: &Expander<'_>) -> Result<bool, Unrea
 fn paths_are(alloc: Global, expander: &Expander<'_>, case: &Case) -> Result<bool, Unread> {
     match case {
         Case::Nested => nested_is_path(alloc, expander),
+        Case::After(second) => second_is_path(alloc, expander, second),
         Case::Outside => outside_is_path(alloc, expander),
         Case::Long => long_path_is_one(alloc, expander),
         Case::InTurn => Ok(other_in_turn(alloc, expander)?.is_none()),
@@ -181,10 +262,18 @@ impl Question for Case {
     }
 }
 
-static CASES: [(&str, Case); 4] = [
+static CASES: [(&str, Case); 9] = [
     (
         "inlined calls of a caller and of the innermost frame",
         Case::Nested,
+    ),
+    ("the front of the path before", Case::After(&FRONT)),
+    ("the callers of the path before", Case::After(&OTHER_END)),
+    ("one caller of the path before", Case::After(&OTHER_CALLER)),
+    ("one frame more than the path before", Case::After(&DEEPER)),
+    (
+        "the path before with another root",
+        Case::After(&OTHER_ROOT),
     ),
     ("an address outside the program", Case::Outside),
     ("512 frames", Case::Long),
