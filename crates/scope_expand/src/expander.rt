@@ -163,7 +163,7 @@ fn expand_with(
     };
     let others = last.share(callers);
     let shared = last.scopes();
-    // room: the root, the scopes that are copied, and the least scopes of each other frame
+    // room: `1 + shared.len() + 2 * (others.len() + 1)`, the root, the shared scopes, and the least of each other frame
     let mut scopes = Vec::with_capacity(alloc, 1 + shared.len() + 2 * (others.len() + 1))?;
     scopes.push(Scope::Root(root_of(raw.end())))?;
     scopes.extend_from_slice(shared)?;
