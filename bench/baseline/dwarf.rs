@@ -90,7 +90,8 @@ impl<'a> Info<'a> {
             let item = &self.items[number];
             let mut identity = item.offset;
             for _ in 0..MOST_LINKS {
-                identity = self.linked(identity).unwrap_or(identity);
+                let Some(next) = self.linked(identity) else { break };
+                identity = next;
             }
             if self.linked(identity).is_some() {
                 return Err(format!("structure LinkCycle at {}", item.offset));
