@@ -10,7 +10,7 @@ use Rattle.rv_hart.specs.declared.execute.Continuation.TheVariants as continuati
 use Rattle.rv_hart.specs.declared.outcome.Stepped.{Stepped}
 use Rattle.rv_hart.specs.Running.{Ran}
 use Rattle.rv_hart.specs.Step.{State, carried_out, fetched, step_of}
-use Rattle.rv_hart.specs.private.Continuing.{step_ended, goes_on, Continues, ContinuesBy}
+use Rattle.rv_hart.specs.private.Continuing.{step_ended, ended_retired, Continues, ContinuesBy}
 use Rattle.rv_hart.proofs.Runs.{kept-step, ran-step}
 use Rattle.rv_hart.proofs.Unchanged.{unchanged}
 
@@ -46,7 +46,7 @@ stepped-as s t inst count old new how other same differs goes is word =
     ended-as same is ∙ sym (kept-step s inst (word (other-than count old new how other same differs goes)))
 
 -- an instruction that goes on ran
-pub one-ran : (s t : State) (inst : Inst) (last : Result Continuation Halt) → goes_on last ≡ true → IfOk last (λ how. ◌≡◌ {A = State × Stepped} (t, step_ended how) (carried_out inst s)) → option_map decoded (fetched s) ≡ Some inst → Ran 1 s t
+pub one-ran : (s t : State) (inst : Inst) (last : Result Continuation Halt) → ended_retired last ≡ true → IfOk last (λ how. ◌≡◌ {A = State × Stepped} (t, step_ended how) (carried_out inst s)) → option_map decoded (fetched s) ≡ Some inst → Ran 1 s t
 one-ran s t inst (Ok continuation.Next) is ok word = ran-step s t (ok ∙ sym (kept-step s inst word))
 one-ran s t inst (Ok continuation.Outside) is ok word = ran-step s t (ok ∙ sym (kept-step s inst word))
 one-ran s t inst (Ok continuation.Illegal) is ok word = absurd cc
@@ -54,7 +54,7 @@ one-ran s t inst (Ok (continuation.Stopped how)) is ok word = absurd cc
 one-ran s t inst (Err halt) is ok word = absurd cc
 
 -- and one that does not changes nothing
-pub one-same : (s t : State) (inst : Inst) (count old new : ℕ) (last : Result Continuation Halt) → goes_on last ≡ false → IfOk last (λ how. ◌≡◌ {A = State × Stepped} (t, step_ended how) (carried_out inst s)) → IfOk last (ContinuesBy inst.op count old new) → OnErr last (t ≡ s) → inst.op ≢ ops.Illegal
+pub one-same : (s t : State) (inst : Inst) (count old new : ℕ) (last : Result Continuation Halt) → ended_retired last ≡ false → IfOk last (λ how. ◌≡◌ {A = State × Stepped} (t, step_ended how) (carried_out inst s)) → IfOk last (ContinuesBy inst.op count old new) → OnErr last (t ≡ s) → inst.op ≢ ops.Illegal
     → option_map decoded (fetched s) ≡ Some inst → t ≡ s
 one-same s t inst count old new (Ok continuation.Next) is ok goes err other word = absurd cc
 one-same s t inst count old new (Ok continuation.Outside) is ok goes err other word = absurd cc

@@ -4,7 +4,7 @@ ghost use Rattle.rv_hart.specs.Events.{SpentBy};
 ghost use Rattle.rv_hart.specs.Running.{Ran};
 ghost use Rattle.rv_hart.specs.Step.{step_of};
 ghost use Rattle.rv_hart.specs.Stepping.{state_of};
-ghost use Rattle.rv_hart.specs.private.Continuing.{goes_on};
+ghost use Rattle.rv_hart.specs.private.Continuing.{ended_retired};
 ghost use Rattle.rv_hart.specs.private.Counting.{HaltsAt};
 ghost use Rattle.rv_hart.specs.private.Decoding.{IsCode, HasInstructionAt};
 ghost use Rattle.rv_hart.specs.private.Indexing.{state_at, word_address};
@@ -98,8 +98,8 @@ pub(crate) fn run_decoded<C: Counter>(
 
 /// Whether an instruction that was carried out so retired.
 #[inline(always)]
-fn goes_on(last: &Result<Continuation, Halt>) -> bool
-    ensures { result ≡ goes_on last.now }
+fn ended_retired(last: &Result<Continuation, Halt>) -> bool
+    ensures { result ≡ ended_retired last.now }
 {
     matches!(last, Ok(Continuation::Next | Continuation::Outside))
 }
@@ -125,5 +125,5 @@ pub(crate) fn step_decoded(
     let count = items.len();
     let last = carry_out(hart, &mut index, base, count, memory, &mut NoCounter, inst);
     hart.pc = pc_of(base, index);
-    goes_on(&last)
+    ended_retired(&last)
 }

@@ -30,9 +30,9 @@ ContinuesBy op count old new how =
     (op ≡ ops.Illegal → how ≡ continuation.Illegal) × (op ≢ ops.Illegal → Continues count old new how)
 
 -- whether an instruction that was carried out so retired
-abbrev pub goes_on : Result Continuation Halt → Bool
-goes_on (Ok continuation.Next) = true
-goes_on (Ok continuation.Outside) = true
-goes_on (Ok continuation.Illegal) = false
-goes_on (Ok (continuation.Stopped how)) = false
-goes_on (Err halt) = false
+abbrev pub ended_retired : Result Continuation Halt → Bool
+ended_retired (Ok continuation.Next) = true
+ended_retired (Ok continuation.Outside) = true
+ended_retired (Ok continuation.Illegal) = false
+ended_retired (Ok (continuation.Stopped how)) = false
+ended_retired (Err halt) = false

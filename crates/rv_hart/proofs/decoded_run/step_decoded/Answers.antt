@@ -14,7 +14,7 @@ pub carry_out-last-requires-clause-registers : goal.carry_out-last-requires-clau
 carry_out-last-requires-clause-registers c =
     (word-here c.args.memory.now c.args.base c.args.items.now c.args.first c.word_at-inst.result.now c.requires.first.0 c.word_at-inst.ensures).registers
 
-module _ (c : goal.After-goes_on) where
+module _ (c : goal.After-ended_retired) where
   abbrev from : State
   from = state_at c.args.base c.args.first c.args.hart.now c.args.memory.now
 
@@ -39,11 +39,11 @@ module _ (c : goal.After-goes_on) where
 pub returns-clause-ran : goal.returns-clause-ran
 returns-clause-ran c is =
     subst (λ (s : State). Ran 1 s (after c)) (from-is c)
-    (subst (Ran 1 (from c)) (sym (after-is c)) (one-ran (from c) (to c) c.word_at-inst.result.now c.carry_out-last.result (sym c.goes_on.ensures ∙ is) c.carry_out-last.ensures.ok ((at c).word (other c))))
+    (subst (Ran 1 (from c)) (sym (after-is c)) (one-ran (from c) (to c) c.word_at-inst.result.now c.carry_out-last.result (sym c.ended_retired.ensures ∙ is) c.carry_out-last.ensures.ok ((at c).word (other c))))
 
 pub returns-clause-same : goal.returns-clause-same
 returns-clause-same c is =
     after-is c
-    ∙ one-same (from c) (to c) c.word_at-inst.result.now (length c.args.items.now) c.args.first c.carry_out-last.new.index c.carry_out-last.result (sym c.goes_on.ensures ∙ is) c.carry_out-last.ensures.ok c.carry_out-last.ensures.goes c.carry_out-last.ensures.err (other c)
+    ∙ one-same (from c) (to c) c.word_at-inst.result.now (length c.args.items.now) c.args.first c.carry_out-last.new.index c.carry_out-last.result (sym c.ended_retired.ensures ∙ is) c.carry_out-last.ensures.ok c.carry_out-last.ensures.goes c.carry_out-last.ensures.err (other c)
     ((at c).word (other c))
     ∙ from-is c
