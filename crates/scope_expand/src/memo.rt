@@ -157,7 +157,7 @@ impl LastCallers {
         self.callers.truncate(count);
     }
 
-    /// Keeps the callers that are the outermost of these, which are innermost first, and gives the others.
+    /// Keeps those callers alone that are the outermost of these, which are innermost first, and gives the others.
     pub(crate) fn share<'a>(&mut self, callers: &'a [Frame]) -> &'a [Frame]
         ensures fits { (program : ProgramScopes) → CallersFit program self.old.callers.items self.old.scopes.items
             → CallersFit program self.new.callers.items self.new.scopes.items }
@@ -170,7 +170,7 @@ impl LastCallers {
         rest
     }
 
-    /// Keeps one more caller with its scopes, or none where no memory is found for it.
+    /// Keeps one more caller with its scopes. Where no memory is found for it, no caller is kept any more.
     pub(crate) fn keep(&mut self, pc: u32, scopes: &[Scope])
         ensures { (program : ProgramScopes) → CallersFit program self.old.callers.items self.old.scopes.items
             → scopes.now ≡ frame_scopes scope.Call (found_at program pc)

@@ -97,41 +97,6 @@ struct Second {
 
 const NO_FDE: End = End::Partial(PartialCause::NoFde);
 
-/// The front of the three frames.
-static FRONT: Second = Second {
-    end: NO_FDE,
-    frames: &[0x1_000c, 0x1_0004],
-    scopes: &[PARTIAL, MAIN, CALL_7, MAIN, OUTER, STMT_8],
-};
-
-static OTHER_END: Second = Second {
-    end: NO_FDE,
-    frames: &[0x1_0004, 0x1_000c, 0x1_0004],
-    scopes: &[PARTIAL, MAIN, CALL_7, MAIN, OUTER, CALL_8, MAIN, STMT_7],
-};
-
-static OTHER_CALLER: Second = Second {
-    end: NO_FDE,
-    frames: &[0x1_000c, 0x1_0004, 0x1_0004],
-    scopes: &[PARTIAL, MAIN, CALL_7, MAIN, CALL_7, MAIN, OUTER, STMT_8],
-};
-/// The three frames call one more.
-static DEEPER: Second = Second {
-    end: NO_FDE,
-    frames: &[0x1_0004, 0x1_0024, 0x1_000c, 0x1_0004],
-    scopes: &[
-        PARTIAL, MAIN, CALL_7, MAIN, OUTER, CALL_8, MAIN, OUTER, INNER, CALL_24, MAIN, STMT_7,
-    ],
-};
-
-static OTHER_ROOT: Second = Second {
-    end: End::Whole,
-    frames: &[0x1_0024, 0x1_000c, 0x1_0004],
-    scopes: &[
-        WHOLE, MAIN, CALL_7, MAIN, OUTER, CALL_8, MAIN, OUTER, INNER, STMT_24,
-    ],
-};
-
 /// No procedure and no line.
 static OUTSIDE: [Scope; 3] = [
     WHOLE,
@@ -193,7 +158,7 @@ fn other_in_turn(alloc: Global, expander: &Expander<'_>) -> Result<Option<u32>, 
 /// Paths of the worked program.
 enum Case {
     Nested,
-    After(&'static Second),
+    After(Second),
     Outside,
     Long,
     InTurn,
@@ -267,13 +232,50 @@ static CASES: [(&str, Case); 9] = [
         "inlined calls of a caller and of the innermost frame",
         Case::Nested,
     ),
-    ("the front of the path before", Case::After(&FRONT)),
-    ("the callers of the path before", Case::After(&OTHER_END)),
-    ("one caller of the path before", Case::After(&OTHER_CALLER)),
-    ("one frame more than the path before", Case::After(&DEEPER)),
+    (
+        "the callers and the next frame of the path before",
+        Case::After(Second {
+            end: NO_FDE,
+            frames: &[0x1_000c, 0x1_0004],
+            scopes: &[PARTIAL, MAIN, CALL_7, MAIN, OUTER, STMT_8],
+        }),
+    ),
+    (
+        "the callers of the path before, and another end",
+        Case::After(Second {
+            end: NO_FDE,
+            frames: &[0x1_0004, 0x1_000c, 0x1_0004],
+            scopes: &[PARTIAL, MAIN, CALL_7, MAIN, OUTER, CALL_8, MAIN, STMT_7],
+        }),
+    ),
+    (
+        "one caller of the path before, and another one",
+        Case::After(Second {
+            end: NO_FDE,
+            frames: &[0x1_000c, 0x1_0004, 0x1_0004],
+            scopes: &[PARTIAL, MAIN, CALL_7, MAIN, CALL_7, MAIN, OUTER, STMT_8],
+        }),
+    ),
+    (
+        "the path before, which calls one more frame",
+        Case::After(Second {
+            end: NO_FDE,
+            frames: &[0x1_0004, 0x1_0024, 0x1_000c, 0x1_0004],
+            scopes: &[
+                PARTIAL, MAIN, CALL_7, MAIN, OUTER, CALL_8, MAIN, OUTER, INNER, CALL_24, MAIN,
+                STMT_7,
+            ],
+        }),
+    ),
     (
         "the path before with another root",
-        Case::After(&OTHER_ROOT),
+        Case::After(Second {
+            end: End::Whole,
+            frames: &[0x1_0024, 0x1_000c, 0x1_0004],
+            scopes: &[
+                WHOLE, MAIN, CALL_7, MAIN, OUTER, CALL_8, MAIN, OUTER, INNER, STMT_24,
+            ],
+        }),
     ),
     ("an address outside the program", Case::Outside),
     ("512 frames", Case::Long),
