@@ -26,7 +26,7 @@ use Rattle.path_trie.specs.private.Linked.{Key, Branches, same_key, branch_at, l
 
 -- ---- keys
 
-scope_decides : (a b : Scope) → Decides (scopes.eq a b) (a ≡ b)
+pub scope_decides : (a b : Scope) → Decides (scopes.eq a b) (a ≡ b)
 scope_decides a b = search rules
 
 both_true : (s t : Bool) → (s && t) ≡ true → (s ≡ true) × (t ≡ true)

@@ -1,13 +1,14 @@
-//! The nodes of a trie. A node is sought right after its parent first, and else among the branches.
+//! The nodes of a trie. A node is sought among those of the path that was put in last, then right after its parent, and
+//! else among the branches.
 ghost use Rattle.std.specs.Prelude.{◌≡◌, ◌+◌, ◌<◌, ◌≤◌, ◌==◌, ◌∷◌, ◌++◌, [], length, fold, MatchOption};
-ghost use Rattle.std.specs.Prelude.{vec_len, vec_capacity, OnOk};
+ghost use Rattle.std.specs.Prelude.{take, vec_len, vec_capacity, OnOk};
 ghost use Rattle.indexmap.specs.IndexMap.{spare};
 ghost use Rattle.scope_types.specs.Limits.{most_scopes_in_all};
-ghost use Rattle.tree_types.specs.Paths.{prefixes};
+ghost use Rattle.tree_types.specs.Paths.{Path, prefixes};
 ghost use Rattle.tree_types.specs.PathsOf.{tree_paths};
 ghost use Rattle.path_trie.specs.Trie.{IsIndex, path_at, with_node};
 ghost use Rattle.path_trie.specs.private.Linked.{Linked, Extends, IsAbsent, Key, linked_node, node_with};
-ghost use Rattle.path_trie.specs.private.Linked.{next_index, last_one, branch_at, with_branch};
+ghost use Rattle.path_trie.specs.private.Linked.{IsKept, next_index, last_one, branch_at, with_branch};
 
 use indexmap::IndexMap;
 use prof_bytes::Memory;
@@ -21,6 +22,8 @@ use tree_types::{NO_PARENT, Node};
 pub struct NodeTable {
     pub nodes: Vec<Node>,
     pub branches: IndexMap<(u32, Scope), u32>,
+    /// The indices of the nodes of the path that was put in last, the outermost first.
+    pub kept: Vec<u32>,
 }
 
 impl NodeTable {
@@ -28,24 +31,30 @@ impl NodeTable {
     pub fn new(alloc: Global) -> NodeTable
         ensures nodes { result.nodes.items ≡ [] }
         ensures branches { result.branches.entries ≡ [] }
+        ensures kept { result.kept.items ≡ [] }
     {
         NodeTable {
             nodes: Vec::new(alloc),
             branches: IndexMap::new(alloc),
+            kept: Vec::new(alloc),
         }
     }
 
-    /// Makes room for a given number of nodes and branches more.
+    /// Makes room for a given number of nodes and branches more, and for as many kept nodes.
     pub fn reserve(&mut self, nodes: usize, branches: usize) -> Result<(), Memory>
         ensures nodes { self.new.nodes.items ≡ self.old.nodes.items }
         ensures branches { self.new.branches.entries ≡ self.old.branches.entries }
         ensures room { OnOk result (vec_len self.new.nodes + nodes ≤ vec_capacity self.new.nodes) }
         ensures branch_room { OnOk result (branches ≤ spare self.new.branches) }
+        ensures kept { self.new.kept.items ≡ self.old.kept.items }
+        ensures kept_room { OnOk result (nodes ≤ vec_capacity self.new.kept) }
     {
         // room: `nodes`, for just the nodes that may come, so that putting them can't fail
         self.nodes.reserve(nodes)?;
         // room: `branches`, for just the branches that may come
         self.branches.reserve(branches)?;
+        // room: `nodes`, since no path has more scopes than all together
+        self.kept.reserve(nodes)?;
         Ok(())
     }
 
@@ -83,6 +92,8 @@ impl NodeTable {
         ensures capacity { vec_capacity self.old.nodes ≤ vec_capacity self.new.nodes }
         ensures branch_room { spare self.old.branches + last_one self.old.nodes.items parent
             ≤ spare self.new.branches + last_one self.new.nodes.items result }
+        ensures kept { self.new.kept.items ≡ self.old.kept.items }
+        ensures kept_capacity { vec_capacity self.new.kept ≡ vec_capacity self.old.kept }
     {
         if let Some(child) = self.child(parent, scope) {
             return child;
@@ -93,12 +104,35 @@ impl NodeTable {
         index
     }
 
-    /// Puts in each prefix of a path. The index of the last, or `NO_PARENT` where there is none.
-    pub fn put_path(&mut self, path: &[Scope]) -> u32
+    /// How many of a path's outermost scopes are those of the kept nodes.
+    fn shared(&self, path: &[Scope]) -> usize
+        requires linked { Linked self.now.nodes.items self.now.branches.entries }
+        requires few { length self.now.nodes.items ≤ most_scopes_in_all }
+        requires kept { (p : Path) × IsKept self.now.nodes.items self.now.kept.items p }
+        ensures kept { IsKept self.now.nodes.items (take result self.now.kept.items) path.now }
+        ensures paths { tree_paths self.now.nodes.items
+            ≡ fold with_node (tree_paths self.now.nodes.items) (take result (prefixes path.now)) }
+        ensures within { result ≤ length self.now.kept.items }
+    {
+        let most = self.kept.len().min(path.len());
+        for depth in 0..most {
+            if self.nodes[self.kept[depth] as usize].scope != path[depth] {
+                return depth;
+            }
+        }
+        most
+    }
+
+    /// Puts in each prefix of a path of which the shortest are those of the kept nodes, and keeps its nodes.
+    fn put_rest(&mut self, path: &[Scope]) -> u32
         requires linked { Linked self.old.nodes.items self.old.branches.entries }
         requires few { length self.old.nodes.items + length path.now ≤ most_scopes_in_all }
         requires room { length self.old.nodes.items + length path.now ≤ vec_capacity self.old.nodes }
         requires branch_room { 0 < spare self.old.branches }
+        requires kept { IsKept self.old.nodes.items self.old.kept.items path.now }
+        requires paths { tree_paths self.old.nodes.items
+            ≡ fold with_node (tree_paths self.old.nodes.items) (take (length self.old.kept.items) (prefixes path.now)) }
+        requires kept_room { length path.now ≤ vec_capacity self.old.kept }
         ensures linked { Linked self.new.nodes.items self.new.branches.entries }
         ensures paths { tree_paths self.new.nodes.items
             ≡ fold with_node (tree_paths self.old.nodes.items) (prefixes path.now) }
@@ -108,12 +142,46 @@ impl NodeTable {
         ensures len { length self.new.nodes.items ≤ length self.old.nodes.items + length path.now }
         ensures capacity { vec_capacity self.old.nodes ≤ vec_capacity self.new.nodes }
         ensures branch_room { spare self.old.branches ≤ spare self.new.branches + 1 }
+        ensures kept { IsKept self.new.nodes.items self.new.kept.items path.now }
+        ensures kept_capacity { vec_capacity self.old.kept ≤ vec_capacity self.new.kept }
     {
-        let mut node = NO_PARENT;
-        for scope in path {
-            node = self.enter(node, *scope);
+        let shared = self.kept.len();
+        let mut node = if shared == 0 {
+            NO_PARENT
+        } else {
+            self.kept[shared - 1]
+        };
+        for depth in shared..path.len() {
+            node = self.enter(node, path[depth]);
+            self.kept.push(node).unwrap();
         }
         node
+    }
+
+    /// Puts in each prefix of a path. The index of the last, or `NO_PARENT` where there is none. The nodes that it shares
+    /// with the path that was put in last are not sought.
+    pub fn put_path(&mut self, path: &[Scope]) -> u32
+        requires linked { Linked self.old.nodes.items self.old.branches.entries }
+        requires few { length self.old.nodes.items + length path.now ≤ most_scopes_in_all }
+        requires room { length self.old.nodes.items + length path.now ≤ vec_capacity self.old.nodes }
+        requires branch_room { 0 < spare self.old.branches }
+        requires kept { (p : Path) × IsKept self.old.nodes.items self.old.kept.items p }
+        requires kept_room { length path.now ≤ vec_capacity self.old.kept }
+        ensures linked { Linked self.new.nodes.items self.new.branches.entries }
+        ensures paths { tree_paths self.new.nodes.items
+            ≡ fold with_node (tree_paths self.old.nodes.items) (prefixes path.now) }
+        ensures path { path_at (tree_paths self.new.nodes.items) result ≡ path.now }
+        ensures index { IsIndex result (length self.new.nodes.items) }
+        ensures extends { Extends (tree_paths self.old.nodes.items) (tree_paths self.new.nodes.items) }
+        ensures len { length self.new.nodes.items ≤ length self.old.nodes.items + length path.now }
+        ensures capacity { vec_capacity self.old.nodes ≤ vec_capacity self.new.nodes }
+        ensures branch_room { spare self.old.branches ≤ spare self.new.branches + 1 }
+        ensures kept { IsKept self.new.nodes.items self.new.kept.items path.now }
+        ensures kept_capacity { vec_capacity self.old.kept ≤ vec_capacity self.new.kept }
+    {
+        let shared = self.shared(path);
+        self.kept.truncate(shared);
+        self.put_rest(path)
     }
 }
 

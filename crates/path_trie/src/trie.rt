@@ -7,7 +7,7 @@ ghost use Rattle.tree_types.specs.Paths.{Path};
 ghost use Rattle.tree_types.specs.PathsOf.{tree_paths};
 ghost use Rattle.path_trie.specs.Trie.{has_node, all_prefixes, trie_nodes, nth_path, trie_node, IsIndex, counted_entry};
 ghost use Rattle.path_trie.specs.Trie.{count_of, samples_of, entry_scopes, StandBefore};
-ghost use Rattle.path_trie.specs.private.Linked.{IsTrie, entries_at, ends_at};
+ghost use Rattle.path_trie.specs.private.Linked.{IsKept, IsTrie, entries_at, ends_at};
 
 use crate::table::NodeTable;
 use prof_bytes::Memory;
@@ -34,13 +34,15 @@ pub struct Trie {
 impl Model for Trie {
     ghost use Rattle.std.specs.Prelude.{List};
     ghost use Rattle.scope_types.specs.declared.path.Entry.{Entry};
-    ghost use Rattle.path_trie.specs.private.Linked.{IsTrie, entries_at};
+    ghost use Rattle.tree_types.specs.Paths.{Path};
+    ghost use Rattle.path_trie.specs.private.Linked.{IsKept, IsTrie, entries_at};
 
     ghost Value = { List Entry };
 
     ghost view = { λ trie. entries_at trie.table.nodes.items trie.ends.items };
 
-    ghost invariant = { λ trie. IsTrie trie.table.nodes.items trie.table.branches.entries trie.ends.items };
+    ghost invariant = { λ trie. IsTrie trie.table.nodes.items trie.table.branches.entries trie.ends.items
+        × ((path : Path) × IsKept trie.table.nodes.items trie.table.kept.items path) };
 }
 
 /// How many scopes the entries' paths have together.
@@ -60,9 +62,12 @@ fn put_entries(table: &mut NodeTable, ends: &mut Vec<PathEnd>, entries: &[Entry]
     requires room { length table.old.nodes.items + entry_scopes entries.now ≤ vec_capacity table.old.nodes }
     requires branch_room { length entries.now ≤ spare table.old.branches }
     requires end_room { length ends.old.items + length entries.now ≤ vec_capacity ends.old }
+    requires kept { (path : Path) × IsKept table.old.nodes.items table.old.kept.items path }
+    requires kept_room { entry_scopes entries.now ≤ vec_capacity table.old.kept }
     ensures fits { IsTrie table.new.nodes.items table.new.branches.entries ends.new.items }
     ensures entries { entries_at table.new.nodes.items ends.new.items
         ≡ entries_at table.old.nodes.items ends.old.items ++ entries.now }
+    ensures kept { (path : Path) × IsKept table.new.nodes.items table.new.kept.items path }
 {
     for entry in entries {
         let node = table.put_path(entry.path.scopes());

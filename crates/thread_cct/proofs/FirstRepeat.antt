@@ -175,6 +175,38 @@ repeat_at cs i k c e lt at_i at_k same =
     let there : has_path e.path (take k cs) ≡ true = list_any_at (λ (x : Counted). same_raw e.path x.path) (take k cs) i c (omega (arith, long, lt)) test in
     ap (λ (o : Option Counted). is_among o (take k cs)) at_k ∙ there
 
+-- a path that repeats one before it, and the one that it repeats
+pub record RepeatsAt (cs : List Counted) (k : ℕ) : Type 0 where
+  pub before : ℕ
+  pub less : before < k
+  pub within : k < length cs
+  pub first : Counted
+  pub second : Counted
+  pub at_before : slice_get cs before ≡ Some first
+  pub at : slice_get cs k ≡ Some second
+  pub same : first.path ≡ second.path
+
+pub repeats_at : (cs : List Counted) (k : ℕ) → is_repeat cs k ≡ true → RepeatsAt cs k
+repeats_at cs k repeats =
+    let found = among cs k repeats in
+    let c : Counted = found.0 in
+    let any = Any-from_list_any (λ (x : Counted). same_raw c.path x.path) (take k cs) found.2 in
+    let j : ℕ = any.0 in
+    let e : Counted = any.1 in
+    let within : k < length cs = slice_get_within cs k c found.1 in
+    let long = length-take-le k cs (omega (arith, within)) in
+    let less : j < k = (let lt = any.2 in omega (arith, lt, long)) in
+    record {
+      before = j;
+      less = less;
+      within = within;
+      first = e;
+      second = c;
+      at_before = slice_get-get_or cs j e (omega (arith, less, within)) ∙ ap (λ (x : Counted). Some x) (sym (get_or-take k cs j e less) ∙ any.3);
+      at = found.1;
+      same = sym ((raw_decides c.path e.path).0 any.4);
+    }
+
 -- ---- sorted keys
 
 abbrev same_number : NumberedPath → NumberedPath → Bool
@@ -254,25 +286,18 @@ module _ (cs : List Counted) (old new : List NumberedPath) (are : AreKeys cs old
   -- the key of a path that repeats one before it ties with the key before it
   repeat_ties : (k : ℕ) → is_repeat cs k ≡ true → TiesAt k
   repeat_ties k repeats =
-      let found = among cs k repeats in
-      let c : Counted = found.0 in
-      let any = Any-from_list_any (λ (x : Counted). same_raw c.path x.path) (take k cs) found.2 in
-      let j : ℕ = any.0 in
-      let e : Counted = any.1 in
-      let k_within : k < length cs = slice_get_within cs k c found.1 in
-      let long = length-take-le k cs (omega (arith, k_within)) in
-      let j_below : j < k = (let lt = any.2 in omega (arith, lt, long)) in
-      let at_j : slice_get cs j ≡ Some e = slice_get-get_or cs j e (omega (arith, j_below, k_within)) ∙ ap (λ (x : Counted). Some x) (sym (get_or-take k cs j e j_below) ∙ any.3) in
-      let same : e.path ≡ c.path = sym ((raw_decides c.path e.path).0 any.4) in
+      let r : RepeatsAt cs k = repeats_at cs k repeats in
+      let k_within : k < length cs = r.within in
+      let j_below : r.before < k = r.less in
       let many = length_permutation old new moved in
       let count = are.many in
       let d : NumberedPath = one_of new (omega (arith, many, count, k_within)) in
-      let first : KeyAt j e d = key_at j e d at_j in
-      let second : KeyAt k c d = key_at k c d found.1 in
+      let first : KeyAt r.before r.first d = key_at r.before r.first d r.at_before in
+      let second : KeyAt k r.second d = key_at k r.second d r.at in
       let a : NumberedPath = get_or new first.at d in
       let b : NumberedPath = get_or new second.at d in
-      let equal : path_order a b ≡ Equal = paths_tied e c a b first.key second.key same in
-      let numbers : nat_cmp a.number b.number ≡ Less = (λ i. nat_cmp (first.number i) (second.number i)) ∙ nat_less j k j_below in
+      let equal : path_order a b ≡ Equal = paths_tied r.first r.second a b first.key second.key r.same in
+      let numbers : nat_cmp a.number b.number ≡ Less = (λ i. nat_cmp (first.number i) (second.number i)) ∙ nat_less r.before k j_below in
       let less : key_order a b ≡ Less = key_split a b ∙ ap (λ (o : Ordering). ordering_then o (nat_cmp a.number b.number)) equal ∙ numbers in
       let before : first.at < second.at =
       elim (cases_lt first.at second.at) [

@@ -6,6 +6,7 @@ pub mod Counts
 pub mod Putting
 mod Columns
 mod FirstRepeat
+mod DistinctDigests
 mod Ties
 mod Listed
 mod DealtEntries

@@ -3,3 +3,4 @@ pub mod Index
 pub mod Dealing
 pub mod Listed
 pub mod Keys
+pub mod Digests

@@ -15,6 +15,7 @@
 mod ccts;
 mod column;
 mod dealt;
+mod digests;
 mod laws;
 mod merge_plan;
 mod path_list;

@@ -1,16 +1,18 @@
 //! The counted raw paths of one column that were read from a file. Their frames lie in one list, path after path, so
-//! that no path has memory of its own, and nothing is hashed.
+//! that no path has memory of its own, and they are in no map.
 ghost use Rattle.std.specs.Prelude.{◌≡◌, ◌+◌, ◌-◌, ◌<◌, ◌≤◌, ◌^◌, ◌++◌, ◌∷◌, [], if◌then◌else◌, length, map, take};
-ghost use Rattle.std.specs.Prelude.{drop, All, IfOk, OnErr, OnOk, Some, slice_get, MatchOption, false};
+ghost use Rattle.std.specs.Prelude.{drop, All, IfOk, OnErr, OnOk, Some, slice_get, MatchOption, false, true};
 ghost use Rattle.std.specs.Cmp.Lexicographic.{pointwise};
 ghost use Rattle.scope_types.specs.Limits.{most_frames_in_all, most_frames_of_path};
 ghost use Rattle.scope_types.specs.Raw.{Raw, same_frame, same_raw};
 ghost use Rattle.thread_cct.specs.Adding.{count_one, has_path};
 ghost use Rattle.thread_cct.specs.Listing.{HasNoRepeat, IsFirstRepeat, frame_at, frames_of_all, samples_of};
+ghost use Rattle.thread_cct.specs.private.Digests.{digest_at};
 ghost use Rattle.thread_cct.specs.private.Fields.{IsPathAt};
 ghost use Rattle.thread_cct.specs.private.Keys.{AreKeys, IsKeyOf};
 ghost use Rattle.thread_cct.specs.private.Listed.{IsListed, listed_path, listed_paths};
 
+use crate::digests::{ascend, digest};
 use crate::repeats::{NumberedPath, least_tie, sort};
 use prof_bytes::Memory;
 use scope_types::{Counted, End, Frame, RawPath};
@@ -101,6 +103,29 @@ fn key_of<'a>(pcs: &'a [u32], path: &ListedPath, number: usize) -> NumberedPath<
         callers: &addresses[1..],
         number,
     }
+}
+
+/// The digests of all paths.
+fn digests_of(alloc: Global, pcs: &[u32], paths: &[ListedPath]) -> Result<Vec<u64>, Memory>
+    requires { All (IsListed pcs.now) paths.now }
+    ensures { IfOk result (λ digests. digests.items ≡ map (digest_at pcs.now) paths.now) }
+{
+    // room: `paths.len()`, a digest for each path
+    let mut digests = Vec::with_capacity(alloc, paths.len())?;
+    for path in paths {
+        digests.push(digest(path.end, addresses(pcs, path)))?;
+    }
+    Ok(digests)
+}
+
+/// Whether the digests of all paths differ, so that no path is there twice. The answer `false` says nothing.
+fn digests_differ(alloc: Global, pcs: &[u32], paths: &[ListedPath]) -> Result<bool, Memory>
+    requires { All (IsListed pcs.now) paths.now }
+    ensures { IfOk result (λ apart. apart ≡ true → HasNoRepeat (listed_paths pcs.now paths.now)) }
+{
+    let mut digests = digests_of(alloc, pcs, paths)?;
+    digests.sort_unstable();
+    Ok(ascend(digests.as_slice()))
 }
 
 /// The keys of all paths.
@@ -233,10 +258,14 @@ impl PathList {
         true
     }
 
-    /// The index of the first path that is the same as one before it. The time grows as n log n, whatever the paths.
+    /// The index of the first path that is the same as one before it. Where the digests of all paths differ, there is
+    /// none; else the paths themselves are sorted. The time grows as n log n, whatever the paths.
     pub fn first_repeat(&self, alloc: Global) -> Result<Option<usize>, Memory>
         ensures { IfOk result (λ found. MatchOption found (HasNoRepeat self.now) (IsFirstRepeat self.now)) }
     {
+        if digests_differ(alloc, self.pcs.as_slice(), self.paths.as_slice())? {
+            return Ok(None);
+        }
         let mut keys = keys_of(alloc, self.pcs.as_slice(), self.paths.as_slice())?;
         sort(&mut keys);
         Ok(least_tie(keys.as_slice()))

@@ -1,5 +1,5 @@
 -- The fields of a trie, and what holds of them.
-use Rattle.std.specs.Prelude.{◌≡◌, ℕ, ◌+◌, ◌<◌, ◌≤◌, ◌%◌, ◌^◌, ◌≢◌, ◌==◌, ◌&&◌, List, [], length, map, All}
+use Rattle.std.specs.Prelude.{◌≡◌, ℕ, ◌+◌, ◌<◌, ◌≤◌, ◌%◌, ◌^◌, ◌≢◌, ◌==◌, ◌&&◌, List, [], length, map, take, All}
 use Rattle.std.specs.Prelude.{slice_index_or, Option, Some, Bool, if◌then◌else◌}
 use Rattle.std.specs.Map.{lookup}
 use Rattle.scope_types.specs.declared.scope.RootKind.TheVariants.{Thread}
@@ -76,6 +76,13 @@ pub record Linked (nodes : List Node) (branches : Branches) : Type 0 where
 pub record Extends (old new : List Path) : Type 0 where
   pub longer : length old ≤ length new
   pub same : (index : ℕ) → IsIndex index (length old) → path_at new index ≡ path_at old index
+
+-- nodes at the shortest prefixes of a path, the shortest first
+pub record IsKept (nodes : List Node) (kept : List ℕ) (path : Path) : Type 0 where
+  pub long : length kept ≤ length path
+  pub within : (i : ℕ) → i < length kept → slice_index_or kept i 0 < length nodes
+  pub at : (i : ℕ) → i < length kept
+      → path_at (tree_paths nodes) (slice_index_or kept i 0) ≡ take (i + 1) path
 
 -- 1 where the index is the last node's, which has no children, and else 0
 abbrev pub last_one : List Node → ℕ → ℕ

@@ -16,6 +16,8 @@ loop-entry-preserved c =
       len = scopes_more _ _ _ _ _ _ _ c.loop-entry-test.true c.entry-item.is c.scopes.ensures l.len p.len;
       capacity = search rules;
       branch_room = search rules;
+      kept = (_, p.kept);
+      kept_room = search rules;
       end_len = search rules;
       end_room = search rules;
     }
