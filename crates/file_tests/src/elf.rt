@@ -176,39 +176,33 @@ fn texts(out: &mut String, image: &Image<'_>, addresses: &[u32]) -> Result<(), M
     functions_at(out, image, addresses)
 }
 
-/// Ranges, of which some count.
-static RANGES: [(u32, u32); 8] = [
-    (0x30000, 0x30008),
-    (0x30008, 0x30018),
-    (0x30004, 0x3000c),
-    (0x30004, 0x30004),
-    (0x30008, 0x30004),
-    (0x10000, 0x10004),
-    (0x30010, 0x30019),
-    (0x2ffff, 0x30001),
+/// Ranges, and whether each counts.
+static RANGES: [(u32, u32, bool); 8] = [
+    (0x30000, 0x30008, true),
+    (0x30008, 0x30018, true),
+    (0x30004, 0x3000c, false),
+    (0x30004, 0x30004, false),
+    (0x30008, 0x30004, false),
+    (0x10000, 0x10004, false),
+    (0x30010, 0x30019, false),
+    (0x2ffff, 0x30001, false),
 ];
 
-/// Which of them count.
-fn counted_ranges(out: &mut String, image: &Image<'_>) -> Result<(), Memory> {
-    for (low, high) in &RANGES {
-        write!(out, "{} ", image.counts(*low, *high))?;
+/// Whether just these ranges count, none past 2^32 does, and no segment holds the end of the last.
+fn ranges_count(image: &Image<'_>) -> bool {
+    for (low, high, counts) in &RANGES {
+        if image.counts(*low, *high) != *counts {
+            return false;
+        }
     }
-    Ok(())
+    !image.counts_from(0xffff_ffff, 2) && image.segment_at(0x30018).is_none()
 }
 
-/// Which of the ranges count, whether one past 2^32 does, and whether no segment holds the end of the last.
-fn counts(out: &mut String, image: &Image<'_>) -> Result<(), Memory> {
-    counted_ranges(out, image)?;
-    let far = image.counts_from(0xffff_ffff, 2);
-    write!(out, "{far} {}", image.segment_at(0x30018).is_none())?;
-    Ok(())
-}
-
-/// What is written of an image: all its texts, their end, or which ranges count.
+/// What is wanted of an image: all its texts, their end, or that the ranges count that should.
 enum Wanted {
     Texts(&'static str),
     End(&'static str),
-    Counts(&'static str),
+    Counts,
 }
 
 /// Whether what is written of the image, with the functions at these addresses, is what is wanted.
@@ -228,10 +222,7 @@ fn image_shows(
             texts(&mut out, image, addresses)?;
             Ok(out.as_str().ends_with(*end))
         }
-        Wanted::Counts(whole) => {
-            counts(&mut out, image)?;
-            Ok(out.as_str() == *whole)
-        }
+        Wanted::Counts => Ok(ranges_count(image)),
     }
 }
 
@@ -314,7 +305,7 @@ static SHOWN: [Shown; 5] = [
         files::SEGMENTS,
         b"188=8 190=3 204=5",
         &[],
-        Wanted::Counts("true true false false false false false false false true"),
+        Wanted::Counts,
     ),
 ];
 
