@@ -48,10 +48,10 @@ fn failing(
 
 /// The first row of the header, the segments, the sections and the symbols that does not hold.
 fn other_refusal(alloc: Global) -> Result<Option<&'static str>, Memory> {
-    let header = failing(alloc, files::straight(), &refused::HEADER_ROWS)?;
-    let segment = failing(alloc, files::segments(), &refused::SEGMENT_ROWS)?;
-    let section = failing(alloc, files::names(), &refused::SECTION_ROWS)?;
-    let symbol = failing(alloc, files::recursive(), &refused::SYMBOL_ROWS)?;
+    let header = failing(alloc, files::STRAIGHT, &refused::HEADER_ROWS)?;
+    let segment = failing(alloc, files::SEGMENTS, &refused::SEGMENT_ROWS)?;
+    let section = failing(alloc, files::NAMES, &refused::SECTION_ROWS)?;
+    let symbol = failing(alloc, files::RECURSIVE, &refused::SYMBOL_ROWS)?;
     Ok(header.or(segment).or(section).or(symbol))
 }
 
@@ -79,13 +79,13 @@ fn other_front(alloc: Global, file: &[u8]) -> Result<Option<usize>, Memory> {
 
 /// The length of the first short front of the straight program that is not refused at its end.
 fn other_short_file(alloc: Global) -> Result<Option<usize>, Memory> {
-    let file = bytes_of(alloc, files::straight())?;
+    let file = bytes_of(alloc, files::STRAIGHT)?;
     other_front(alloc, &file)
 }
 
 /// Whether a file that ends within its section headers is refused by their offset.
 fn cut_sections_are_refused(alloc: Global) -> Result<bool, Memory> {
-    let file = bytes_of(alloc, files::recursive())?;
+    let file = bytes_of(alloc, files::RECURSIVE)?;
     answer_is(alloc, file.get(..473).unwrap_or(&[]), b"HeaderPlace 32")
 }
 
@@ -96,7 +96,7 @@ fn other_file(alloc: Global) -> Result<Option<&'static str>, Memory> {
     }
     failing(
         alloc,
-        files::overlap(),
+        files::OVERLAP,
         &[("lld, code over the headers", "", "SegmentPlace 116")],
     )
 }
@@ -176,73 +176,54 @@ fn texts(out: &mut String, image: &Image<'_>, addresses: &[u32]) -> Result<(), M
     functions_at(out, image, addresses)
 }
 
-/// Ranges, of which some count.
-static RANGES: [(u32, u32); 8] = [
-    (0x30000, 0x30008),
-    (0x30008, 0x30018),
-    (0x30004, 0x3000c),
-    (0x30004, 0x30004),
-    (0x30008, 0x30004),
-    (0x10000, 0x10004),
-    (0x30010, 0x30019),
-    (0x2ffff, 0x30001),
+/// Ranges, and whether each counts.
+static RANGES: [(u32, u32, bool); 8] = [
+    (0x30000, 0x30008, true),
+    (0x30008, 0x30018, true),
+    (0x30004, 0x3000c, false),
+    (0x30004, 0x30004, false),
+    (0x30008, 0x30004, false),
+    (0x10000, 0x10004, false),
+    (0x30010, 0x30019, false),
+    (0x2ffff, 0x30001, false),
 ];
 
-/// Which of them count.
-fn counted_ranges(out: &mut String, image: &Image<'_>) -> Result<(), Memory> {
-    for (low, high) in &RANGES {
-        write!(out, "{} ", image.counts(*low, *high))?;
+/// Whether just these ranges count, none past 2^32 does, and no segment holds the end of the last.
+fn ranges_count(image: &Image<'_>) -> bool {
+    for (low, high, counts) in &RANGES {
+        if image.counts(*low, *high) != *counts {
+            return false;
+        }
     }
-    Ok(())
+    !image.counts_from(0xffff_ffff, 2) && image.segment_at(0x30018).is_none()
 }
 
-/// Which of the ranges count, whether one past 2^32 does, and whether no segment holds the end of the last.
-fn counts(out: &mut String, image: &Image<'_>) -> Result<(), Memory> {
-    counted_ranges(out, image)?;
-    let far = image.counts_from(0xffff_ffff, 2);
-    write!(out, "{far} {}", image.segment_at(0x30018).is_none())?;
-    Ok(())
-}
-
-/// What is written of an image: all its texts, their end, or which ranges count.
-#[derive(Clone, Copy)]
+/// What is wanted of an image: all its texts, their end, or that the ranges count that should.
 enum Wanted {
     Texts(&'static str),
     End(&'static str),
-    Counts(&'static str),
+    Counts,
 }
 
-/// Writes what is asked of an image.
-fn written(
-    out: &mut String,
-    image: &Image<'_>,
-    addresses: &[u32],
-    wanted: Wanted,
-) -> Result<(), Memory> {
-    match wanted {
-        Wanted::Texts(_) | Wanted::End(_) => texts(out, image, addresses),
-        Wanted::Counts(_) => counts(out, image),
-    }
-}
-
-/// Whether a text is what is wanted.
-fn is_wanted(text: &str, wanted: Wanted) -> bool {
-    match wanted {
-        Wanted::Texts(whole) | Wanted::Counts(whole) => text == whole,
-        Wanted::End(end) => text.ends_with(end),
-    }
-}
-
-/// Whether what is written of the image is what is wanted.
+/// Whether what is written of the image, with the functions at these addresses, is what is wanted.
 fn image_shows(
     alloc: Global,
     image: &Image<'_>,
     addresses: &[u32],
-    wanted: Wanted,
+    wanted: &Wanted,
 ) -> Result<bool, Memory> {
     let mut out = String::new(alloc);
-    written(&mut out, image, addresses, wanted)?;
-    Ok(is_wanted(out.as_str(), wanted))
+    match wanted {
+        Wanted::Texts(whole) => {
+            texts(&mut out, image, addresses)?;
+            Ok(out.as_str() == *whole)
+        }
+        Wanted::End(end) => {
+            texts(&mut out, image, addresses)?;
+            Ok(out.as_str().ends_with(*end))
+        }
+        Wanted::Counts => Ok(ranges_count(image)),
+    }
 }
 
 /// Whether what is written of the file's image is what is wanted.
@@ -250,7 +231,7 @@ fn file_shows(
     alloc: Global,
     file: &[u8],
     addresses: &[u32],
-    wanted: Wanted,
+    wanted: &Wanted,
 ) -> Result<bool, Memory> {
     if file.len() > 1 << 26 {
         return Ok(false);
@@ -268,60 +249,77 @@ fn shows(
     hex: &[u8],
     changes: &[u8],
     addresses: &[u32],
-    wanted: Wanted,
+    wanted: &Wanted,
 ) -> Result<bool, Memory> {
     let file = changed(alloc, hex, changes)?;
     file_shows(alloc, &file, addresses, wanted)
 }
 
-/// Whether the file of GNU ld shows what readelf says of it.
-fn gnu_shows(alloc: Global) -> Result<bool, Memory> {
-    let wanted = Wanted::Texts(
-        "entry 10000 length 792\nff60 10024 5 0 c4\n10030 10050 6 c4 c\n10010 20 sum\n10000 16 _start\n36 12 0 80 0 none\n_start\nsum\nnone\n",
-    );
-    let addresses = [0xffff, 0x1000f, 0x10010, 0x10024];
-    shows(alloc, files::gnu(), b"", &addresses, wanted)
-}
-
-/// Whether the file of lld shows what readelf says of it.
-fn lld_shows(alloc: Global) -> Result<bool, Memory> {
-    let wanted = Wanted::Texts(
-        "entry 100e4 length 772\n10000 100d4 4 0 d4\n100e4 1010c 5 d4 28\n1011c 1013c 6 fc c\n100e4 20 _start\n100f8 20 sum\n40 12 0 68 0 none\n_start\nsum\n",
-    );
-    let addresses = [0x100e3, 0x100f7, 0x100f8];
-    shows(alloc, files::lld(), b"", &addresses, wanted)
-}
-
-/// Whether the addresses in the outer function alone, and after both, have their functions.
-fn outer_shows(alloc: Global) -> Result<bool, Memory> {
-    let wanted = Wanted::End("0 0 0 44 0 _start\nnone\n");
-    let addresses = [0x10014, 0x10030];
-    shows(alloc, files::recursive(), b"200=48", &addresses, wanted)
-}
-
-/// Whether the addresses before, in and after the inner function have their functions.
-fn inner_shows(alloc: Global) -> Result<bool, Memory> {
-    let changes = b"196=16 200=8 212=0 216=48";
-    let wanted = Wanted::End("0 0 0 44 0 f\n_start\nf\n");
-    let addresses = [0x1000c, 0x10014, 0x10018];
-    shows(alloc, files::recursive(), changes, &addresses, wanted)
-}
-
-/// Whether the ranges count that should: of two segments that touch, and of one that cannot be executed.
-fn counted(alloc: Global) -> Result<bool, Memory> {
-    let changes = b"188=8 190=3 204=5";
-    let wanted = Wanted::Counts("true true false false false false false false false true");
-    shows(alloc, files::segments(), changes, &[], wanted)
-}
+/// A file with changes, addresses, and what is written of it.
+type Shown = (
+    &'static str,
+    &'static [u8],
+    &'static [u8],
+    &'static [u32],
+    Wanted,
+);
 
 /// What readelf says of the headers, the sections' sizes and the function symbols, of GNU ld and lld; the first in
-/// symbol order holds an address, also where functions nest; and ranges that count.
+/// symbol order holds an address, also where functions nest: in the outer function alone and after both, and before, in
+/// and after the inner one; and ranges that count, of two segments that touch and of one that cannot be executed.
+static SHOWN: [Shown; 5] = [
+    (
+        "GNU ld",
+        files::GNU,
+        b"",
+        &[0xffff, 0x1000f, 0x10010, 0x10024],
+        Wanted::Texts(
+            "entry 10000 length 792\nff60 10024 5 0 c4\n10030 10050 6 c4 c\n10010 20 sum\n10000 16 _start\n36 12 0 80 0 none\n_start\nsum\nnone\n",
+        ),
+    ),
+    (
+        "lld",
+        files::LLD,
+        b"",
+        &[0x100e3, 0x100f7, 0x100f8],
+        Wanted::Texts(
+            "entry 100e4 length 772\n10000 100d4 4 0 d4\n100e4 1010c 5 d4 28\n1011c 1013c 6 fc c\n100e4 20 _start\n100f8 20 sum\n40 12 0 68 0 none\n_start\nsum\n",
+        ),
+    ),
+    (
+        "the outer function",
+        files::RECURSIVE,
+        b"200=48",
+        &[0x10014, 0x10030],
+        Wanted::End("0 0 0 44 0 _start\nnone\n"),
+    ),
+    (
+        "the inner function",
+        files::RECURSIVE,
+        b"196=16 200=8 212=0 216=48",
+        &[0x1000c, 0x10014, 0x10018],
+        Wanted::End("0 0 0 44 0 f\n_start\nf\n"),
+    ),
+    (
+        "ranges that count",
+        files::SEGMENTS,
+        b"188=8 190=3 204=5",
+        &[],
+        Wanted::Counts,
+    ),
+];
+
+/// The first file that shows something else.
+fn other_shown(alloc: Global) -> Result<Option<&'static str>, Memory> {
+    for (name, hex, changes, addresses, wanted) in &SHOWN {
+        if !shows(alloc, hex, changes, addresses, wanted)? {
+            return Ok(Some(*name));
+        }
+    }
+    Ok(None)
+}
+
 #[test]
 fn files_nested_functions_and_ranges(rt: HostRuntime) -> Result<(), Fail> {
-    assert!(rt; gnu_shows(rt.alloc())?, "GNU ld");
-    assert!(rt; lld_shows(rt.alloc())?, "lld");
-    assert!(rt; outer_shows(rt.alloc())?, "the outer function");
-    assert!(rt; inner_shows(rt.alloc())?, "the inner function");
-    assert!(rt; counted(rt.alloc())?, "ranges that count");
-    Ok(())
+    no_row(other_shown(rt.alloc())?)
 }

@@ -11,57 +11,25 @@ use scope_types::Event;
 use std::alloc::Global;
 use std::test::Fail as Failed;
 
-/// A program whose code lies in a segment that may be written, or beside one.
-#[derive(Clone, Copy)]
-enum Program {
-    Own,
-    Beside,
-}
+/// A pass: its name, how many loads, stores and taken branches there may be, how many of these are left at the end, and
+/// how many instructions retired.
+type Pass = (&'static str, [u32; 3], [u32; 3], u64);
 
-fn file_of(program: Program) -> &'static [u8] {
-    match program {
-        Program::Own => &OWN,
-        Program::Beside => &BESIDE,
-    }
-}
+/// Passes of a program whose code lies in a segment that may be written.
+static OWN_PASSES: [Pass; 4] = [
+    ("all", [10, 10, 10], [7, 7, 8], 21),
+    ("no second load", [1, 10, 10], [0, 9, 9], 9),
+    ("no third store", [10, 2, 10], [7, 0, 8], 16),
+    ("no second taken branch", [10, 10, 1], [8, 8, 0], 13),
+];
 
-/// A pass: its name, its program, how many loads, stores and taken branches there may be, how many of these
-/// are left at the end, and how many instructions retired.
-static PASSES: [(&str, Program, [u32; 3], [u32; 3], u64); 8] = [
-    ("all", Program::Own, [10, 10, 10], [7, 7, 8], 21),
-    ("no second load", Program::Own, [1, 10, 10], [0, 9, 9], 9),
-    ("no third store", Program::Own, [10, 2, 10], [7, 0, 8], 16),
-    (
-        "no second taken branch",
-        Program::Own,
-        [10, 10, 1],
-        [8, 8, 0],
-        13,
-    ),
-    (
-        "all, and a store that traps",
-        Program::Beside,
-        [10, 10, 10],
-        [7, 7, 8],
-        23,
-    ),
-    (
-        "no store that traps",
-        Program::Beside,
-        [10, 3, 10],
-        [7, 0, 8],
-        23,
-    ),
-    (
-        "no second load of decoded words",
-        Program::Beside,
-        [1, 10, 10],
-        [0, 9, 9],
-        9,
-    ),
+/// The same of one whose code lies beside such a segment.
+static BESIDE_PASSES: [Pass; 4] = [
+    ("all, and a store that traps", [10, 10, 10], [7, 7, 8], 23),
+    ("no store that traps", [10, 3, 10], [7, 0, 8], 23),
+    ("no second load of decoded words", [1, 10, 10], [0, 9, 9], 9),
     (
         "no second taken branch of decoded words",
-        Program::Beside,
         [10, 10, 1],
         [8, 8, 0],
         15,
@@ -118,10 +86,10 @@ fn passes(
     Ok(left == events_left(after) && machine.retired(0) == retired)
 }
 
-/// The first pass that leaves something else.
-fn other_pass(alloc: Global) -> Result<Option<&'static str>, Trouble> {
-    for (name, program, before, after, retired) in &PASSES {
-        let mut machine = machine_of(alloc, file_of(*program), b"harts 1\n0 1000\n", b"")?;
+/// The first pass of the program in a file that leaves something else.
+fn other_pass(alloc: Global, file: &[u8], rows: &[Pass]) -> Result<Option<&'static str>, Trouble> {
+    for (name, before, after, retired) in rows {
+        let mut machine = machine_of(alloc, file, b"harts 1\n0 1000\n", b"")?;
         if !passes(&mut machine, *before, *after, *retired)? {
             return Ok(Some(name));
         }
@@ -131,6 +99,8 @@ fn other_pass(alloc: Global) -> Result<Option<&'static str>, Trouble> {
 
 #[test]
 fn events_of_passes(rt: HostRuntime) -> Result<(), Failed> {
-    assert_eq!(rt; other_pass(rt.alloc())?, None);
+    let own = other_pass(rt.alloc(), &OWN, &OWN_PASSES)?;
+    let beside = other_pass(rt.alloc(), &BESIDE, &BESIDE_PASSES)?;
+    assert_eq!(rt; (own, beside), (None, None));
     Ok(())
 }

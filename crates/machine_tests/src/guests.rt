@@ -9,7 +9,7 @@ use rv_run::{Machine, Schedule, read_schedule};
 use std::alloc::Global;
 
 /// A file or a text that a test gives is not taken.
-#[derive(Clone, Copy, Debug, PartialEq, Eq)]
+#[derive(Clone, Copy, Debug)]
 pub(crate) struct Refused;
 
 /// Why a test found out nothing.

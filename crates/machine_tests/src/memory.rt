@@ -56,14 +56,6 @@ fn other_load(space: &Space) -> Option<&'static str> {
     None
 }
 
-/// The first store, word or load that differs in the memory of a program.
-fn other_access(space: &mut Space) -> Result<Option<&'static str>, Trouble> {
-    match other_store_or_word(space, &STORES, &WORDS)? {
-        Some(name) => Ok(Some(name)),
-        None => Ok(other_load(space)),
-    }
-}
-
 /// The first step that ends otherwise.
 fn other_step(space: &mut Space) -> Result<Option<&'static str>, Trouble> {
     for (name, pc, end, x7) in &SEGMENT_STEPS {
@@ -76,28 +68,25 @@ fn other_step(space: &mut Space) -> Result<Option<&'static str>, Trouble> {
     Ok(None)
 }
 
-/// The first store, word or step that differs in the memory of four segments.
-fn other_in_segments(space: &mut Space) -> Result<Option<&'static str>, Trouble> {
-    match other_store_or_word(space, &SEGMENT_STORES, &SEGMENT_WORDS)? {
-        Some(name) => Ok(Some(name)),
-        None => other_step(space),
-    }
-}
-
 /// What is looked at in a memory.
-#[derive(Clone, Copy)]
 enum Wanted {
     Program,
     LastStack,
     Segments,
 }
 
-/// The first of what is wanted that differs in a memory.
-fn other_row(space: &mut Space, wanted: Wanted) -> Result<Option<&'static str>, Trouble> {
+/// The first store, word, load or step that differs in a memory.
+fn other_row(space: &mut Space, wanted: &Wanted) -> Result<Option<&'static str>, Trouble> {
     match wanted {
-        Wanted::Program => other_access(space),
+        Wanted::Program => {
+            let other = other_store_or_word(space, &STORES, &WORDS)?;
+            Ok(other.or(other_load(space)))
+        }
         Wanted::LastStack => other_store_or_word(space, &LAST_STORES, &LAST_WORDS),
-        Wanted::Segments => other_in_segments(space),
+        Wanted::Segments => {
+            let other = other_store_or_word(space, &SEGMENT_STORES, &SEGMENT_WORDS)?;
+            Ok(other.or(other_step(space)?))
+        }
     }
 }
 
@@ -106,39 +95,23 @@ fn other_in_file(
     alloc: Global,
     file: &[u8],
     harts: u32,
-    wanted: Wanted,
+    wanted: &Wanted,
 ) -> Result<Option<&'static str>, Trouble> {
     let mut space = space_of(alloc, file, harts)?;
     other_row(&mut space, wanted)
 }
 
-/// The same for the program that adds.
-fn other_in_adder(
-    alloc: Global,
-    harts: u32,
-    wanted: Wanted,
-) -> Result<Option<&'static str>, Trouble> {
+/// The same for the program that adds, on one hart and on 64.
+fn other_in_adder(alloc: Global) -> Result<Option<&'static str>, Trouble> {
     let file = guest(alloc, &ADDER)?;
-    other_in_file(alloc, &file, harts, wanted)
+    let one = other_in_file(alloc, &file, 1, &Wanted::Program)?;
+    Ok(one.or(other_in_file(alloc, &file, 64, &Wanted::LastStack)?))
 }
 
 #[test]
-fn memory_of_a_program(rt: HostRuntime) -> Result<(), Fail> {
-    assert_eq!(rt; other_in_adder(rt.alloc(), 1, Wanted::Program)?, None);
-    Ok(())
-}
-
-#[test]
-fn the_last_stack(rt: HostRuntime) -> Result<(), Fail> {
-    assert_eq!(rt; other_in_adder(rt.alloc(), 64, Wanted::LastStack)?, None);
-    Ok(())
-}
-
-#[test]
-fn segments_that_share_a_page(rt: HostRuntime) -> Result<(), Fail> {
-    assert_eq!(rt;
-        other_in_file(rt.alloc(), &SEGMENTS, 1, Wanted::Segments)?,
-        None
-    );
+fn memory_of_a_program_its_last_stack_and_segments_in_a_page(rt: HostRuntime) -> Result<(), Fail> {
+    assert_eq!(rt; other_in_adder(rt.alloc())?, None);
+    let segments = other_in_file(rt.alloc(), &SEGMENTS, 1, &Wanted::Segments)?;
+    assert_eq!(rt; segments, None);
     Ok(())
 }

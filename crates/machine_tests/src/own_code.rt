@@ -30,13 +30,7 @@ pub(crate) static BESIDE: [u8; 160] = [
 ];
 
 /// What is left of a run: x10, how many instructions retired, how the hart stands, and a word of the memory.
-#[derive(Clone, Copy, Debug, PartialEq, Eq)]
-struct Ended {
-    x10: u32,
-    retired: u64,
-    end: HartEnd,
-    word: Option<u32>,
-}
+type Ended = (u32, u64, HartEnd, Option<u32>);
 
 /// Carries out a run, many instructions at a time.
 fn carry_out(machine: &mut Machine<'_>) -> Result<(), Trouble> {
@@ -55,12 +49,12 @@ fn left(machine: &Machine<'_>, at: u32) -> Option<Ended> {
         return None;
     }
     let regs = *machine.regs(0);
-    Some(Ended {
-        x10: regs[10],
-        retired: machine.retired(0),
-        end: machine.end(0),
-        word: machine.space().word(at),
-    })
+    Some((
+        regs[10],
+        machine.retired(0),
+        machine.end(0),
+        machine.space().word(at),
+    ))
 }
 
 fn run(machine: &mut Machine<'_>, at: u32) -> Result<Option<Ended>, Trouble> {
@@ -75,28 +69,14 @@ fn after_run(alloc: Global, file: &[u8], at: u32) -> Result<Option<Ended>, Troub
 }
 
 #[test]
-fn code_that_writes_itself(rt: HostRuntime) -> Result<(), Failed> {
-    let wanted = Ended {
-        x10: 33,
-        retired: 21,
-        end: HartEnd::Exit(33),
-        word: Some(0x0105_0513),
+fn code_that_writes_itself_and_code_beside_what_is_written(rt: HostRuntime) -> Result<(), Failed> {
+    let own = after_run(rt.alloc(), &OWN, 0x1_0008)?;
+    assert_eq!(rt; own, Some((33, 21, HartEnd::Exit(33), Some(0x0105_0513))));
+    let beside = after_run(rt.alloc(), &BESIDE, 0x1_0028)?;
+    let trap = HartEnd::Trap {
+        cause: Cause::Store,
+        pc: 0x1_0024,
     };
-    assert_eq!(rt; after_run(rt.alloc(), &OWN, 0x1_0008)?, Some(wanted));
-    Ok(())
-}
-
-#[test]
-fn code_beside_a_segment_that_is_written(rt: HostRuntime) -> Result<(), Failed> {
-    let wanted = Ended {
-        x10: 24,
-        retired: 23,
-        end: HartEnd::Trap {
-            cause: Cause::Store,
-            pc: 0x1_0024,
-        },
-        word: Some(10),
-    };
-    assert_eq!(rt; after_run(rt.alloc(), &BESIDE, 0x1_0028)?, Some(wanted));
+    assert_eq!(rt; beside, Some((24, 23, trap, Some(10))));
     Ok(())
 }

@@ -50,26 +50,18 @@ fn x10(machine: &Machine<'_>) -> Option<u32> {
 }
 
 /// What a call leaves: x10, the retired instructions, how hart 0 stands, the output's place in the file, and a word.
-#[derive(Clone, Copy)]
-struct Left {
-    x10: u32,
-    retired: u64,
-    end: HartEnd,
-    output: (usize, usize),
-    word: (u32, Option<u32>),
-}
+type Left = (u32, u64, HartEnd, (usize, usize), (u32, Option<u32>));
 
 /// The first word of the code, which no call changes.
 const CODE_WORD: (u32, Option<u32>) = (0x1_0000, Some(663));
 
 /// What of these is another in a machine of the program in a file.
 fn other_part(machine: &Machine<'_>, file: &[u8], left: &Left) -> Option<&'static str> {
-    let (from, to) = left.output;
-    let (at, word) = left.word;
-    if x10(machine) != Some(left.x10) {
+    let (answer, retired, end, (from, to), (at, word)) = *left;
+    if x10(machine) != Some(answer) {
         return Some("x10");
     }
-    if !stands(machine, 0, left.retired, left.end) {
+    if !stands(machine, 0, retired, end) {
         return Some("the hart");
     }
     if machine.space().load(at, 4) != word {
@@ -215,14 +207,14 @@ enum Wanted<'a> {
 fn other_in_run(
     machine: &mut Machine<'_>,
     file: &[u8],
-    wanted: Wanted<'_>,
+    wanted: &Wanted<'_>,
 ) -> Result<Option<&'static str>, Trouble> {
     match wanted {
         Wanted::Call(left) => other_after_call(machine, file, left),
         Wanted::Outputs => other_output(machine),
         Wanted::Moments => other_moment_or_end(machine),
         Wanted::SharedWords => other_word_or_end(machine),
-        Wanted::Ends(count, harts) => other_end_after(machine, count, harts),
+        Wanted::Ends(count, harts) => other_end_after(machine, *count, harts),
     }
 }
 
@@ -231,7 +223,7 @@ fn other_in_file(
     alloc: Global,
     file: &[u8],
     text: &[u8],
-    wanted: Wanted<'_>,
+    wanted: &Wanted<'_>,
 ) -> Result<Option<&'static str>, Trouble> {
     let mut machine = machine_of(alloc, file, text, b"abcdef")?;
     other_in_run(&mut machine, file, wanted)
@@ -242,7 +234,7 @@ fn other_in_program(
     alloc: Global,
     words: &[u32],
     text: &[u8],
-    wanted: Wanted<'_>,
+    wanted: &Wanted<'_>,
 ) -> Result<Option<&'static str>, Trouble> {
     let file = guest(alloc, words)?;
     other_in_file(alloc, &file, text, wanted)
@@ -259,20 +251,14 @@ fn caller(alloc: Global, given: [u32; 4]) -> Result<Vec<u32>, Trouble> {
 /// Whether a call with these in x17 and x10 to x12 leaves this.
 fn call_leaves(alloc: Global, given: [u32; 4], left: &Left) -> Result<bool, Trouble> {
     let words = caller(alloc, given)?;
-    let other = other_in_program(alloc, &words, b"harts 1\n0 6", Wanted::Call(left))?;
+    let other = other_in_program(alloc, &words, b"harts 1\n0 6", &Wanted::Call(left))?;
     Ok(other.is_none())
 }
 
 /// The first read that leaves something else.
 fn other_read(alloc: Global) -> Result<Option<&'static str>, Trouble> {
     for (name, descriptor, at, count, answer, word) in &READS {
-        let left = Left {
-            x10: *answer,
-            retired: 6,
-            end: HartEnd::Running,
-            output: (84, 84),
-            word: (*at, *word),
-        };
+        let left = (*answer, 6, HartEnd::Running, (84, 84), (*at, *word));
         if !call_leaves(alloc, [SYS_READ, *descriptor, *at, *count], &left)? {
             return Ok(Some(name));
         }
@@ -280,22 +266,10 @@ fn other_read(alloc: Global) -> Result<Option<&'static str>, Trouble> {
     Ok(None)
 }
 
-#[test]
-fn reads_of_the_input(rt: HostRuntime) -> Result<(), Failed> {
-    assert_eq!(rt; other_read(rt.alloc())?, None);
-    Ok(())
-}
-
 /// The first write that leaves something else.
 fn other_write(alloc: Global) -> Result<Option<&'static str>, Trouble> {
     for (name, descriptor, at, count, answer, from, to) in &WRITES {
-        let left = Left {
-            x10: *answer,
-            retired: 6,
-            end: HartEnd::Running,
-            output: (*from, *to),
-            word: CODE_WORD,
-        };
+        let left = (*answer, 6, HartEnd::Running, (*from, *to), CODE_WORD);
         if !call_leaves(alloc, [SYS_WRITE, *descriptor, *at, *count], &left)? {
             return Ok(Some(name));
         }
@@ -303,22 +277,10 @@ fn other_write(alloc: Global) -> Result<Option<&'static str>, Trouble> {
     Ok(None)
 }
 
-#[test]
-fn writes_of_memory(rt: HostRuntime) -> Result<(), Failed> {
-    assert_eq!(rt; other_write(rt.alloc())?, None);
-    Ok(())
-}
-
 /// The first other call that leaves something else.
 fn other_call(alloc: Global) -> Result<Option<&'static str>, Trouble> {
     for (name, number, a, answer, retired, end) in &OTHERS {
-        let left = Left {
-            x10: *answer,
-            retired: *retired,
-            end: *end,
-            output: (84, 84),
-            word: CODE_WORD,
-        };
+        let left = (*answer, *retired, *end, (84, 84), CODE_WORD);
         if !call_leaves(alloc, [*number, *a, 0, 0], &left)? {
             return Ok(Some(name));
         }
@@ -326,29 +288,13 @@ fn other_call(alloc: Global) -> Result<Option<&'static str>, Trouble> {
     Ok(None)
 }
 
+/// Reads of the input, writes of memory, exits and calls that are not known.
 #[test]
-fn exits_and_unknown_calls(rt: HostRuntime) -> Result<(), Failed> {
-    assert_eq!(rt; other_call(rt.alloc())?, None);
-    Ok(())
-}
-
-#[test]
-fn output_within_its_limit(rt: HostRuntime) -> Result<(), Failed> {
-    let text = b"harts 1\n0 100";
-    assert_eq!(rt;
-        other_in_program(rt.alloc(), &WRITER, text, Wanted::Outputs)?,
-        None
-    );
-    Ok(())
-}
-
-#[test]
-fn moments_in_their_order(rt: HostRuntime) -> Result<(), Failed> {
-    let text = b"harts 2\n0 3\n1 2\n0 17\n1 1\n0 9\n1 1\n";
-    assert_eq!(rt;
-        other_in_program(rt.alloc(), &ADDER, text, Wanted::Moments)?,
-        None
-    );
+fn environment_calls(rt: HostRuntime) -> Result<(), Failed> {
+    let read = other_read(rt.alloc())?;
+    let write = other_write(rt.alloc())?;
+    let call = other_call(rt.alloc())?;
+    assert_eq!(rt; (read, write, call), (None, None, None));
     Ok(())
 }
 
@@ -361,7 +307,7 @@ fn second_hart_ends(
 ) -> Result<bool, Trouble> {
     let harts = [("hart 1", 1, retired, end)];
     let text = b"harts 2\n1 9\n0 9\n1 9";
-    let other = other_in_program(alloc, words, text, Wanted::Ends(30, &harts))?;
+    let other = other_in_program(alloc, words, text, &Wanted::Ends(30, &harts))?;
     Ok(other.is_none())
 }
 
@@ -375,26 +321,22 @@ fn other_program(alloc: Global) -> Result<Option<&'static str>, Trouble> {
     Ok(None)
 }
 
-#[test]
-fn ends_of_harts(rt: HostRuntime) -> Result<(), Failed> {
-    assert_eq!(rt; other_program(rt.alloc())?, None);
-    Ok(())
-}
-
-#[test]
-fn exit_of_all_harts(rt: HostRuntime) -> Result<(), Failed> {
+/// The first run that is otherwise: output up to its limit, moments in their order, an exit of all harts, and two harts
+/// that change one word.
+fn other_run(alloc: Global) -> Result<Option<&'static str>, Trouble> {
+    let output = other_in_program(alloc, &WRITER, b"harts 1\n0 100", &Wanted::Outputs)?;
+    let text = b"harts 2\n0 3\n1 2\n0 17\n1 1\n0 9\n1 1\n";
+    let moment = other_in_program(alloc, &ADDER, text, &Wanted::Moments)?;
     let text = b"harts 3\n1 4\n2 9\n0 9\n1 9\n2 9\n0 9";
-    let wanted = Wanted::Ends(14, &ENDS_OF_GROUP);
-    assert_eq!(rt; other_in_program(rt.alloc(), &GROUP, text, wanted)?, None);
-    Ok(())
+    let exit = other_in_program(alloc, &GROUP, text, &Wanted::Ends(14, &ENDS_OF_GROUP))?;
+    let text = b"harts 2\n0 7\n1 7\n0 3\n1 6\n0 3";
+    let shared = other_in_program(alloc, &SHARED, text, &Wanted::SharedWords)?;
+    Ok(output.or(moment).or(exit).or(shared))
 }
 
 #[test]
-fn two_harts_on_one_word(rt: HostRuntime) -> Result<(), Failed> {
-    let text = b"harts 2\n0 7\n1 7\n0 3\n1 6\n0 3";
-    assert_eq!(rt;
-        other_in_program(rt.alloc(), &SHARED, text, Wanted::SharedWords)?,
-        None
-    );
+fn outputs_moments_and_ends_of_harts(rt: HostRuntime) -> Result<(), Failed> {
+    let other = (other_run(rt.alloc())?, other_program(rt.alloc())?);
+    assert_eq!(rt; other, (None, None));
     Ok(())
 }

@@ -44,12 +44,6 @@ fn other_fault(alloc: Global) -> Result<Option<&'static str>, Trouble> {
     Ok(None)
 }
 
-#[test]
-fn bad_lines_of_schedules(rt: HostRuntime) -> Result<(), Failed> {
-    assert_eq!(rt; other_fault(rt.alloc())?, None);
-    Ok(())
-}
-
 /// Whether a text tells a schedule of so many harts and these slices.
 fn tells(alloc: Global, text: &[u8], harts: u32, slices: &[(u32, u32)]) -> Result<bool, Trouble> {
     let told = schedule(alloc, text)?;
@@ -67,7 +61,8 @@ fn other_schedule(alloc: Global) -> Result<Option<&'static str>, Trouble> {
 }
 
 #[test]
-fn schedules_as_they_are_told(rt: HostRuntime) -> Result<(), Failed> {
-    assert_eq!(rt; other_schedule(rt.alloc())?, None);
+fn schedules_as_they_are_told_and_bad_lines(rt: HostRuntime) -> Result<(), Failed> {
+    let other = (other_schedule(rt.alloc())?, other_fault(rt.alloc())?);
+    assert_eq!(rt; other, (None, None));
     Ok(())
 }

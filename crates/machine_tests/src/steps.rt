@@ -13,40 +13,37 @@ const CODE: u32 = 0x1_0000;
 
 const STACK: u32 = 0xf008_0000;
 
-/// The file of a program of the words of these tables.
-macro_rules! program {
-    ($alloc:expr; $($table:expr),+) => {{
-        let mut words = Vec::new($alloc);
+/// Puts the words of these tables, one after another.
+macro_rules! put_words {
+    ($words:expr; $($table:expr),+) => {{
         $(for row in $table {
-            words.push(row.1)?;
+            $words.push(row.1)?;
         })+
-        guest($alloc, words.as_slice())
     }};
 }
 
-fn computed_program(alloc: Global) -> Result<Vec<u8>, Trouble> {
-    program!(alloc; &COMPUTED)
+/// The file of a program of the words of all tables.
+fn program(alloc: Global) -> Result<Vec<u8>, Trouble> {
+    let mut words = Vec::new(alloc);
+    put_words!(words; &COMPUTED, &BRANCHES, &LOADS, &STORES);
+    put_words!(words; &JUMPS, &JUMPS_BY_REGISTER, &UNCHANGED);
+    guest(alloc, words.as_slice())
 }
 
-/// The first instruction that computes another result.
-fn other_result(space: &mut Space) -> Result<Option<&'static str>, Trouble> {
-    let mut pc = CODE;
+/// The first instruction that computes another result. `pc` is the first row's address, and then that after the last.
+fn other_result(space: &mut Space, pc: &mut u32) -> Result<Option<&'static str>, Trouble> {
     for (name, _, x5, x6, x7) in &COMPUTED {
-        let mut hart = hart_at(pc, *x5, *x6);
+        let mut hart = hart_at(*pc, *x5, *x6);
         if next_event(&hart, space).is_some() {
             return Ok(Some(name));
         }
         let stepped = step(&mut hart, space)?;
-        pc = pc.wrapping_add(4);
-        if stepped != Stepped::Retired || hart.pc != pc || hart.regs[7] != *x7 {
+        *pc = pc.wrapping_add(4);
+        if stepped != Stepped::Retired || hart.pc != *pc || hart.regs[7] != *x7 {
             return Ok(Some(name));
         }
     }
     Ok(None)
-}
-
-fn branches_program(alloc: Global) -> Result<Vec<u8>, Trouble> {
-    program!(alloc; &BRANCHES)
 }
 
 /// Where the branch at an address leads; every other one is by 8 bytes back, and those between are by 8 bytes on.
@@ -58,39 +55,30 @@ fn target(pc: u32, taken: bool, back: bool) -> u32 {
     }
 }
 
-fn event_of_branch(taken: bool) -> Option<Event> {
-    if taken { Some(Event::Taken) } else { None }
-}
-
 /// The first branch that leads elsewhere, or has another event.
-fn other_branch(space: &mut Space) -> Result<Option<&'static str>, Trouble> {
-    let mut pc = CODE;
+fn other_branch(space: &mut Space, pc: &mut u32) -> Result<Option<&'static str>, Trouble> {
     let mut back = true;
     for (name, _, x5, x6, taken) in &BRANCHES {
-        let mut hart = hart_at(pc, *x5, *x6);
-        if next_event(&hart, space) != event_of_branch(*taken) {
+        let mut hart = hart_at(*pc, *x5, *x6);
+        let event = if *taken { Some(Event::Taken) } else { None };
+        if next_event(&hart, space) != event {
             return Ok(Some(name));
         }
         let stepped = step(&mut hart, space)?;
-        if stepped != Stepped::Retired || hart.pc != target(pc, *taken, back) {
+        if stepped != Stepped::Retired || hart.pc != target(*pc, *taken, back) {
             return Ok(Some(name));
         }
-        pc = pc.wrapping_add(4);
+        *pc = pc.wrapping_add(4);
         back = !back;
     }
     Ok(None)
 }
 
-fn loads_and_stores_program(alloc: Global) -> Result<Vec<u8>, Trouble> {
-    program!(alloc; &LOADS, &STORES)
-}
-
 /// Each load finds the pattern's bytes, and is one.
-fn other_load(space: &mut Space, data: u32) -> Result<Option<&'static str>, Trouble> {
+fn other_load(space: &mut Space, pc: &mut u32, data: u32) -> Result<Option<&'static str>, Trouble> {
     let _ = space.store(data, &PATTERN)?;
-    let mut pc = CODE;
     for (name, _, x7) in &LOADS {
-        let mut hart = hart_at(pc, data, 0);
+        let mut hart = hart_at(*pc, data, 0);
         if next_event(&hart, space) != Some(Event::Loads) {
             return Ok(Some(name));
         }
@@ -98,7 +86,7 @@ fn other_load(space: &mut Space, data: u32) -> Result<Option<&'static str>, Trou
         if stepped != Stepped::Retired || hart.regs[7] != *x7 {
             return Ok(Some(name));
         }
-        pc = pc.wrapping_add(4);
+        *pc = pc.wrapping_add(4);
     }
     Ok(None)
 }
@@ -114,11 +102,14 @@ fn four_words(space: &Space, at: u32) -> Option<[u32; 4]> {
 }
 
 /// Each store changes the pattern's bytes as it should, and no others, and is one.
-fn other_store(space: &mut Space, data: u32) -> Result<Option<&'static str>, Trouble> {
-    let mut pc = CODE.wrapping_add(104);
+fn other_store(
+    space: &mut Space,
+    pc: &mut u32,
+    data: u32,
+) -> Result<Option<&'static str>, Trouble> {
     for (name, _, after) in &STORES {
         let _ = space.store(data, &PATTERN)?;
-        let mut hart = hart_at(pc, data, 0xa1b2_c3d4);
+        let mut hart = hart_at(*pc, data, 0xa1b2_c3d4);
         if next_event(&hart, space) != Some(Event::Stores) {
             return Ok(Some(name));
         }
@@ -126,17 +117,20 @@ fn other_store(space: &mut Space, data: u32) -> Result<Option<&'static str>, Tro
         if stepped != Stepped::Retired || four_words(space, data) != Some(*after) {
             return Ok(Some(name));
         }
-        pc = pc.wrapping_add(4);
+        *pc = pc.wrapping_add(4);
     }
     Ok(None)
 }
 
-/// The first load or store at an address that differs.
-fn other_load_or_store(space: &mut Space, data: u32) -> Result<Option<&'static str>, Trouble> {
-    match other_load(space, data)? {
-        Some(name) => Ok(Some(name)),
-        None => other_store(space, data),
-    }
+/// The first load or store that differs, of data in one page of the stack and across two pages.
+fn other_access(space: &mut Space, pc: &mut u32) -> Result<Option<&'static str>, Trouble> {
+    let first = *pc;
+    let load = other_load(space, pc, STACK)?;
+    let store = other_store(space, pc, STACK)?;
+    *pc = first;
+    let across = other_load(space, pc, STACK + 0xff9)?;
+    let store_across = other_store(space, pc, STACK + 0xff9)?;
+    Ok(load.or(store).or(across).or(store_across))
 }
 
 /// Jumps and branches that retire, by the manual: its name, the word as the GNU assembler makes it, x5, and pc
@@ -163,8 +157,9 @@ static JUMPS_BY_REGISTER: [(&str, u32, u32, u32); 3] = [
     ("jalr x7, -2048(x5)", 0x8002_83e7, 0x100, 0xffff_f900),
 ];
 
-/// Instructions that change nothing, by the manual: its name, the word, x5, and how the step ends.
-static UNCHANGED: [(&str, u32, u32, Stepped); 13] = [
+/// Instructions that change no register, by the manual: its name, the word, x5, and how the step ends. qemu-riscv32
+/// gives 0 for x0 after each whose target it is.
+static UNCHANGED: [(&str, u32, u32, Stepped); 17] = [
     ("ecall", 0x0000_0073, 0, Stepped::Ecall),
     ("ebreak", 0x0010_0073, 0, Stepped::Break),
     ("jal x7, .+2", 0x0020_03ef, 0, Stepped::Trap(Cause::Target)),
@@ -208,194 +203,108 @@ static UNCHANGED: [(&str, u32, u32, Stepped); 13] = [
         0xf00f_fffd,
         Stepped::Trap(Cause::Store),
     ),
+    ("add x0, x5, x6", 0x0062_8033, 3, Stepped::Retired),
+    ("lui x0, 0x12345", 0x1234_5037, 3, Stepped::Retired),
+    ("addi x0, x5, 1", 0x0012_8013, 3, Stepped::Retired),
+    ("mul x0, x5, x6", 0x0262_8033, 3, Stepped::Retired),
 ];
 
-/// Instructions with x0 as their target; qemu-riscv32 gives 0 for it after each.
-const INTO_X0: [(&str, u32); 4] = [
-    ("add x0, x5, x6", 0x0062_8033),
-    ("lui x0, 0x12345", 0x1234_5037),
-    ("addi x0, x5, 1", 0x0012_8013),
-    ("mul x0, x5, x6", 0x0262_8033),
-];
-
-fn jumps_program(alloc: Global) -> Result<Vec<u8>, Trouble> {
-    program!(alloc; &JUMPS, &JUMPS_BY_REGISTER)
-}
-
-fn other_jump_by_pc(space: &mut Space) -> Result<Option<&'static str>, Trouble> {
-    let mut pc = CODE;
+fn other_jump_by_pc(space: &mut Space, pc: &mut u32) -> Result<Option<&'static str>, Trouble> {
     for (name, _, x5, by) in &JUMPS {
-        let mut hart = hart_at(pc, *x5, 0);
+        let mut hart = hart_at(*pc, *x5, 0);
         let stepped = step(&mut hart, space)?;
         if stepped != Stepped::Retired || hart.pc != pc.wrapping_add(*by) {
             return Ok(Some(name));
         }
-        pc = pc.wrapping_add(4);
+        *pc = pc.wrapping_add(4);
     }
     Ok(None)
 }
 
-fn other_jump_by_register(space: &mut Space) -> Result<Option<&'static str>, Trouble> {
-    let mut pc = CODE.wrapping_add(28);
+fn other_jump_by_register(
+    space: &mut Space,
+    pc: &mut u32,
+) -> Result<Option<&'static str>, Trouble> {
     for (name, _, x5, target) in &JUMPS_BY_REGISTER {
-        let mut hart = hart_at(pc, *x5, 0);
+        let mut hart = hart_at(*pc, *x5, 0);
         let stepped = step(&mut hart, space)?;
-        pc = pc.wrapping_add(4);
-        if stepped != Stepped::Retired || hart.pc != *target || hart.regs[7] != pc {
+        *pc = pc.wrapping_add(4);
+        if stepped != Stepped::Retired || hart.pc != *target || hart.regs[7] != *pc {
             return Ok(Some(name));
         }
     }
     Ok(None)
 }
 
-fn other_jump(space: &mut Space) -> Result<Option<&'static str>, Trouble> {
-    match other_jump_by_pc(space)? {
-        Some(name) => Ok(Some(name)),
-        None => other_jump_by_register(space),
-    }
-}
-
-fn unchanged_program(alloc: Global) -> Result<Vec<u8>, Trouble> {
-    program!(alloc; &UNCHANGED, &INTO_X0)
-}
-
-/// Steps that change no register and no pc.
-fn other_end(space: &mut Space) -> Result<Option<&'static str>, Trouble> {
-    let mut pc = CODE;
+/// Steps that change no register; where they don't retire, no pc either.
+fn other_end(space: &mut Space, pc: &mut u32) -> Result<Option<&'static str>, Trouble> {
     for (name, _, x5, end) in &UNCHANGED {
-        let mut hart = hart_at(pc, *x5, 7);
+        let mut hart = hart_at(*pc, *x5, 7);
         let before = hart.regs;
         let stepped = step(&mut hart, space)?;
-        if stepped != *end || hart.pc != pc || hart.regs != before {
+        let by = if *end == Stepped::Retired { 4 } else { 0 };
+        if stepped != *end || hart.pc != pc.wrapping_add(by) || hart.regs != before {
             return Ok(Some(name));
         }
-        pc = pc.wrapping_add(4);
+        *pc = pc.wrapping_add(4);
     }
     Ok(None)
 }
 
-fn other_x0(space: &mut Space) -> Result<Option<&'static str>, Trouble> {
-    let mut pc = CODE.wrapping_add(52);
-    for (name, _) in &INTO_X0 {
-        let mut hart = hart_at(pc, 3, 5);
-        let before = hart.regs;
+/// The first address at which an instruction is fetched and shouldn't be; the code ends at `end`.
+fn other_fetch(space: &mut Space, end: u32) -> Result<Option<&'static str>, Trouble> {
+    let addresses = [
+        ("after the code", end),
+        ("no multiple of 4", 0x1_0002),
+        ("outside of all regions", 0),
+        ("in a stack", STACK),
+        ("at the last word", 0xffff_fffc),
+    ];
+    for (name, pc) in addresses {
+        let mut hart = hart_at(pc, 0, 0);
         let stepped = step(&mut hart, space)?;
-        if stepped != Stepped::Retired || hart.regs != before {
-            return Ok(Some(name));
-        }
-        pc = pc.wrapping_add(4);
-    }
-    Ok(None)
-}
-
-/// Addresses at which no instruction is fetched.
-const NOT_FETCHED: [(&str, u32); 5] = [
-    ("after the code", 0x1_0044),
-    ("no multiple of 4", 0x1_0002),
-    ("outside of all regions", 0),
-    ("in a stack", STACK),
-    ("at the last word", 0xffff_fffc),
-];
-
-fn other_fetch(space: &mut Space) -> Result<Option<&'static str>, Trouble> {
-    for (name, pc) in &NOT_FETCHED {
-        let mut hart = hart_at(*pc, 0, 0);
-        let stepped = step(&mut hart, space)?;
-        if stepped != Stepped::Trap(Cause::Fetch) || hart.pc != *pc {
+        if stepped != Stepped::Trap(Cause::Fetch) || hart.pc != pc {
             return Ok(Some(name));
         }
     }
     Ok(None)
 }
 
-/// The first step that changes something, by its end, its target or its address.
-fn change(space: &mut Space) -> Result<Option<&'static str>, Trouble> {
-    if let Some(name) = other_end(space)? {
-        return Ok(Some(name));
-    }
-    match other_x0(space)? {
-        Some(name) => Ok(Some(name)),
-        None => other_fetch(space),
-    }
-}
-
-/// The tables that programs are made of, and their steps looked up in.
-#[derive(Clone, Copy)]
-enum Table {
-    Computed,
-    Branches,
-    /// At this address.
-    LoadsAndStores(u32),
-    Jumps,
-    Unchanged,
-}
-
-/// The file of a table's program.
-fn program_of(alloc: Global, table: Table) -> Result<Vec<u8>, Trouble> {
-    match table {
-        Table::Computed => computed_program(alloc),
-        Table::Branches => branches_program(alloc),
-        Table::LoadsAndStores(_) => loads_and_stores_program(alloc),
-        Table::Jumps => jumps_program(alloc),
-        Table::Unchanged => unchanged_program(alloc),
-    }
-}
-
-/// The first step that is another one than a table says.
-fn other_step(space: &mut Space, table: Table) -> Result<Option<&'static str>, Trouble> {
-    match table {
-        Table::Computed => other_result(space),
-        Table::Branches => other_branch(space),
-        Table::LoadsAndStores(data) => other_load_or_store(space, data),
-        Table::Jumps => other_jump(space),
-        Table::Unchanged => change(space),
-    }
+/// The first step that is another one than its row says, in the order of the program.
+fn other_step(space: &mut Space) -> Result<Option<&'static str>, Trouble> {
+    let mut pc = CODE;
+    let result = other_result(space, &mut pc)?;
+    let branch = other_branch(space, &mut pc)?;
+    let access = other_access(space, &mut pc)?;
+    let jump = other_jump_by_pc(space, &mut pc)?;
+    let by_register = other_jump_by_register(space, &mut pc)?;
+    let end = other_end(space, &mut pc)?;
+    let fetch = other_fetch(space, pc)?;
+    Ok(
+        result
+            .or(branch)
+            .or(access)
+            .or(jump)
+            .or(by_register)
+            .or(end)
+            .or(fetch),
+    )
 }
 
 /// The same in the memory of the program in a file.
-fn other_step_of(
-    alloc: Global,
-    file: &[u8],
-    table: Table,
-) -> Result<Option<&'static str>, Trouble> {
+fn other_step_of(alloc: Global, file: &[u8]) -> Result<Option<&'static str>, Trouble> {
     let mut space = space_of(alloc, file, 1)?;
-    other_step(&mut space, table)
+    other_step(&mut space)
 }
 
-/// The first row of a table that isn't met by the table's program.
-fn other_row(alloc: Global, table: Table) -> Result<Option<&'static str>, Trouble> {
-    let file = program_of(alloc, table)?;
-    other_step_of(alloc, &file, table)
-}
-
-#[test]
-fn computed_results(rt: HostRuntime) -> Result<(), Fail> {
-    assert_eq!(rt; other_row(rt.alloc(), Table::Computed)?, None);
-    Ok(())
+/// The same in the memory of the program of all tables.
+fn other_step_of_program(alloc: Global) -> Result<Option<&'static str>, Trouble> {
+    let file = program(alloc)?;
+    other_step_of(alloc, &file)
 }
 
 #[test]
-fn branches_both_ways(rt: HostRuntime) -> Result<(), Fail> {
-    assert_eq!(rt; other_row(rt.alloc(), Table::Branches)?, None);
-    Ok(())
-}
-
-#[test]
-fn loads_and_stores(rt: HostRuntime) -> Result<(), Fail> {
-    let inside = other_row(rt.alloc(), Table::LoadsAndStores(STACK))?;
-    let across = other_row(rt.alloc(), Table::LoadsAndStores(STACK + 0xff9))?;
-    assert_eq!(rt; (inside, across), (None, None));
-    Ok(())
-}
-
-#[test]
-fn jumps(rt: HostRuntime) -> Result<(), Fail> {
-    assert_eq!(rt; other_row(rt.alloc(), Table::Jumps)?, None);
-    Ok(())
-}
-
-#[test]
-fn nothing_changes(rt: HostRuntime) -> Result<(), Fail> {
-    assert_eq!(rt; other_row(rt.alloc(), Table::Unchanged)?, None);
+fn each_instruction_steps_as_its_row_says(rt: HostRuntime) -> Result<(), Fail> {
+    assert_eq!(rt; other_step_of_program(rt.alloc())?, None);
     Ok(())
 }

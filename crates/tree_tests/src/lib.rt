@@ -12,6 +12,8 @@ mod crew;
 #[cfg(test)]
 mod event_measurements;
 #[cfg(test)]
+mod files;
+#[cfg(test)]
 mod joins;
 #[cfg(test)]
 mod measurements;

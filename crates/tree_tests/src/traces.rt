@@ -1,28 +1,28 @@
-//! Trace files: the bytes of a small one, read and written, and where what is not one has its first fault; and traces
-//! that grow sample by sample.
+//! Trace files: two small ones, and where changes of them have their first fault; and traces that grow by samples.
+use crate::files::Row;
 use prof_bytes::{Fail, Memory};
 use scope_types::{End, Frame, RawPath};
 use std::alloc::Global;
 use std::test::Fail as Failed;
-use trace_lines::{Trace, TraceFault, TraceFull, read_trace, write_trace};
+use trace_lines::{Trace, TraceFull, read_trace, write_trace};
 
 /// The program has 168 bytes and begins at 0x10000. Its first hart retired 7 instructions and has a sample after the
 /// fifth; the second retired 3 and has none.
-static TRACE: [u8; 72] =
+pub(crate) static TRACE: [u8; 72] =
     *b"HPCTRAC1\xa8\x00\x00\x00\x00\x00\x01\x00\x05\x00\x00\x00\x02\x00\x00\x00\
 \x07\x00\x00\x00\x00\x00\x00\x00\x01\x00\x00\x00\
 \x00\x00\x00\x00\x01\x00\x00\x00\x10\x00\x01\x00\x01\x00\x00\x00\x00\x00\x00\x00\
 \x03\x00\x00\x00\x00\x00\x00\x00\x00\x00\x00\x00\x00\x00\x00\x00";
 
 /// One hart, which retired 4 instructions, each with a sample: of two paths, and of the first twice more.
-static AGAIN: [u8; 80] =
+pub(crate) static AGAIN: [u8; 80] =
     *b"HPCTRAC1\xa8\x00\x00\x00\x00\x00\x01\x00\x01\x00\x00\x00\x01\x00\x00\x00\
 \x04\x00\x00\x00\x00\x00\x00\x00\x02\x00\x00\x00\
 \x00\x00\x00\x00\x01\x00\x00\x00\x10\x00\x01\x00\x00\x00\x00\x00\x01\x00\x00\x00\x14\x00\x01\x00\
 \x04\x00\x00\x00\x00\x00\x00\x00\x01\x00\x00\x00\x00\x00\x00\x00\x00\x00\x00\x00";
 
-/// What a row changes in the first file: bytes at places, and how many bytes there are; and where the fault is.
-static REFUSALS: [(&str, &[(usize, u8)], usize, u64); 18] = [
+/// Changes of the first file.
+pub(crate) static TRACE_REFUSALS: [Row; 18] = [
     ("without the last byte", &[], 71, 68),
     ("with a byte after", &[], 73, 72),
     ("another word at the start", &[(7, 0x32)], 72, 0),
@@ -43,98 +43,21 @@ static REFUSALS: [(&str, &[(usize, u8)], usize, u64); 18] = [
     ("an unused path", &[(64, 1), (72, 1)], 84, 84),
 ];
 
-/// The same of the second file.
-static REFUSALS_AGAIN: [(&str, &[(usize, u8)], usize, u64); 4] = [
+/// Changes of the second file.
+pub(crate) static REFUSALS_AGAIN: [Row; 4] = [
     ("a path twice", &[(56, 0x10)], 80, 56),
     ("the second path first", &[(64, 1)], 80, 64),
     ("the second path never", &[(68, 0)], 80, 80),
     ("a place past the paths", &[(76, 2)], 80, 76),
 ];
 
-/// The offset of the first fault.
-fn fault(alloc: Global, bytes: &[u8]) -> Result<Option<u64>, Memory> {
-    match read_trace(alloc, bytes) {
-        Ok(_) => Ok(None),
-        Err(Fail::Fault(TraceFault { offset })) => Ok(Some(offset)),
-        Err(Fail::Memory(memory)) => Err(memory),
-    }
-}
-
-/// A file's first bytes, and zeros after its end, with changes.
-fn changed(
-    alloc: Global,
-    file: &[u8],
-    changes: &[(usize, u8)],
-    size: usize,
-) -> Result<Vec<u8>, Memory> {
-    let mut bytes = Vec::new(alloc);
-    for offset in 0..size {
-        let mut byte = match file.get(offset) {
-            Some(byte) => *byte,
-            None => 0,
-        };
-        for (other, new) in changes {
-            if *other == offset {
-                byte = *new;
-            }
-        }
-        bytes.push(byte)?;
-    }
-    Ok(bytes)
-}
-
-/// The first row that has its fault elsewhere.
-fn wrong_row(
-    alloc: Global,
-    file: &[u8],
-    rows: &[(&'static str, &[(usize, u8)], usize, u64)],
-) -> Result<Option<&'static str>, Memory> {
-    for (name, changes, size, offset) in rows {
-        let bytes = changed(alloc, file, changes, *size)?;
-        if fault(alloc, &bytes)? != Some(*offset) {
-            return Ok(Some(*name));
-        }
-    }
-    Ok(None)
-}
-
-/// Where a front of the first file ends within a field: the field's start. The instructions that a hart retired have
-/// eight bytes, and so has the first word.
-fn field_start(size: usize) -> u64 {
-    match size {
-        0..=7 => 0,
-        24..=31 => 24,
-        56..=63 => 56,
-        _ => (size - size % 4) as u64,
-    }
-}
-
-/// The first front of the file that is not refused at the start of the field that it cuts.
-fn wrong_front(alloc: Global) -> Result<Option<usize>, Memory> {
-    for size in 0..72usize {
-        let bytes = changed(alloc, &TRACE, &[], size)?;
-        if fault(alloc, &bytes)? != Some(field_start(size)) {
-            return Ok(Some(size));
-        }
-    }
-    Ok(None)
-}
-
 /// Whether a file is read, and what was read is written as the file's bytes again.
-fn is_written_again(alloc: Global, file: &[u8]) -> Result<bool, Memory> {
+pub(crate) fn trace_is_written_again(alloc: Global, file: &[u8]) -> Result<bool, Memory> {
     match read_trace(alloc, file) {
         Ok(trace) => Ok(write_trace(alloc, &trace)?.bytes() == file),
         Err(Fail::Fault(_)) => Ok(false),
         Err(Fail::Memory(memory)) => Err(memory),
     }
-}
-
-/// Whether both files are written as they were read.
-fn are_written_again(alloc: Global) -> Result<(bool, bool), Memory> {
-    Ok((
-        is_written_again(alloc, &TRACE)?,
-        is_written_again(alloc, &AGAIN)?,
-    ))
 }
 
 /// A whole raw path of one frame.
@@ -174,31 +97,8 @@ fn grown_pcs(alloc: Global) -> Result<[Option<u32>; 4], Fail<TraceFull>> {
 }
 
 #[test]
-fn traces_as_bytes(rt: HostRuntime) -> Result<(), Failed> {
-    assert_eq!(rt; are_written_again(rt.alloc())?, (true, true));
-    Ok(())
-}
-
-#[test]
 fn samples_in_order(rt: HostRuntime) -> Result<(), Failed> {
     let wanted = [Some(0x1_0010), Some(0x1_0024), Some(0x1_0010), None];
     assert_eq!(rt; grown_pcs(rt.alloc())?, wanted);
-    Ok(())
-}
-
-/// The first rows and the first front that have their faults elsewhere.
-fn wrong_rows_and_front(
-    alloc: Global,
-) -> Result<(Option<&'static str>, Option<&'static str>, Option<usize>), Memory> {
-    Ok((
-        wrong_row(alloc, &TRACE, &REFUSALS)?,
-        wrong_row(alloc, &AGAIN, &REFUSALS_AGAIN)?,
-        wrong_front(alloc)?,
-    ))
-}
-
-#[test]
-fn first_faults_of_traces(rt: HostRuntime) -> Result<(), Failed> {
-    assert_eq!(rt; wrong_rows_and_front(rt.alloc())?, (None, None, None));
     Ok(())
 }

@@ -118,12 +118,6 @@ fn other_code(alloc: Global, bytes: &[u8]) -> Result<Option<u64>, Unread> {
     Ok(other_declaration(&table).or(needless.map(|declared| declared.code)))
 }
 
-/// The same in the table of the program.
-fn other_code_of_program(alloc: Global) -> Result<Option<u64>, Unread> {
-    let bytes = bytes_of(alloc, ABBREV)?;
-    other_code(alloc, &bytes)
-}
-
 /// The offset of the first declaration of a code, where that code is read there.
 fn offset_of(bytes: &[u8], code: u64) -> Option<usize> {
     match first_declaration(bytes, 0, code) {
@@ -164,16 +158,15 @@ fn other_in_bytes(bytes: &[u8]) -> Option<u64> {
     None
 }
 
-/// The same in the table of the program.
-fn other_in_bytes_of_program(alloc: Global) -> Result<Option<u64>, Memory> {
+/// The first code of the program's table that is declared in another way, in the table as it is read and in its bytes.
+fn other_of_program(alloc: Global) -> Result<Option<u64>, Unread> {
     let bytes = bytes_of(alloc, ABBREV)?;
-    Ok(other_in_bytes(&bytes))
+    Ok(other_code(alloc, &bytes)?.or(other_in_bytes(&bytes)))
 }
 
 #[test]
 fn declarations_of_a_program(rt: HostRuntime) -> Result<(), Fail> {
-    assert_eq!(rt; other_code_of_program(rt.alloc())?, None);
-    assert_eq!(rt; other_in_bytes_of_program(rt.alloc())?, None);
+    assert_eq!(rt; other_of_program(rt.alloc())?, None);
     Ok(())
 }
 
