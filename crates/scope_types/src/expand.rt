@@ -4,6 +4,7 @@ ghost use Rattle.scope_types.specs.Raw.{Raw};
 
 use crate::frame::RawPath;
 use crate::path::ScopePath;
+use crate::scope::Scope;
 use prof_bytes::Memory;
 
 /// What expands raw paths to call paths.
@@ -30,4 +31,18 @@ pub trait Expand {
         requires { fits self.now memo.old }
         ensures memo { fits self.now memo.new }
         ensures path { IfOk result (λ path. path ≡ call_path self.now raw.now) };
+
+    /// The same, in the memory of other scopes where the expander has a use for it.
+    fn expand_in(
+        &self,
+        memo: &mut Self::Memo,
+        raw: &RawPath,
+        _scopes: Vec<Scope>,
+    ) -> Result<ScopePath, Memory>
+        requires { fits self.now memo.old }
+        ensures memo { fits self.now memo.new }
+        ensures path { IfOk result (λ path. path ≡ call_path self.now raw.now) }
+    {
+        self.expand(memo, raw)
+    }
 }

@@ -33,6 +33,13 @@ impl ScopePath {
     {
         self.scopes.as_slice()
     }
+
+    /// The list of the scopes, whose memory may serve for another path.
+    pub fn into_scopes(self) -> Vec<Scope>
+        ensures { result.items ≡ self }
+    {
+        self.scopes
+    }
 }
 
 /// A call path of a column, by the column's number from 0, and how many samples have it.
