@@ -18,6 +18,7 @@ use Rattle.rv_hart.specs.declared.decoded_code.DecodedCode.{DecodedCode}
 use Rattle.rv_hart.specs.Running.{after_steps, Ran}
 use Rattle.rv_hart.specs.Step.{State, finishes_store, step_of}
 use Rattle.rv_hart.specs.private.Decoding.{KeepsFixed, IsDecodedAt, IsCode, AreCode}
+use Rattle.rv_hart.proofs.Runs.{ran-none}
 use Rattle.rv_hart.proofs.StepCases.{HoldsOfEnds, of_step}
 
 pub fixed-same : (m : AddressSpace) → KeepsFixed m m
@@ -91,6 +92,11 @@ steps-fixed (suc count) s =
 
 pub ran-fixed : (count : ℕ) (s t : State) → Ran count s t → KeepsFixed s.memory t.memory
 ran-fixed count s t ran = subst (λ (u : State). KeepsFixed s.memory u.memory) (sym ran.state) (steps-fixed count s)
+
+-- an instruction that ran, or changed nothing
+pub one-fixed : (is : Bool) (s t : State) → (is ≡ true → Ran 1 s t) → (is ≡ false → t ≡ s) → KeepsFixed s.memory t.memory
+one-fixed true s t ran same = ran-fixed 1 s t (ran refl)
+one-fixed false s t ran same = ran-fixed 0 s t (subst (Ran 0 s) (sym (same refl)) (ran-none s))
 
 -- ---- what is decoded
 

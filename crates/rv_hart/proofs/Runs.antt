@@ -34,6 +34,10 @@ ran-more count s t u how was is retires =
           ];
     }
 
+-- one that retired
+pub ran-step : (s t : State) → (t, stepped.Retired) ≡ step_of s → Ran 1 s t
+ran-step s t is = ran-more 0 s s t stepped.Retired (ran-none s) is refl
+
 -- the same by how many are left of the most
 pub ran-start : (most : ℕ) (s : State) → Ran (most - most) s s
 ran-start most s = subst (λ (n : ℕ). Ran n s s) (let e : 0 ≡ most - most = omega arith in e) (ran-none s)

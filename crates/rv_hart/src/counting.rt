@@ -68,6 +68,25 @@ impl Counter for NoCounter {
     fn count(&mut self, _event: Event) {}
 }
 
+/// Counts nothing, as `NoCounter`, where one instruction alone is carried out. It is a type of its own: LLVM puts the code
+/// of an instruction, which is large, into its caller where there is one alone, and so each counter has one caller.
+#[derive(Clone, Copy, Debug)]
+pub(crate) struct OneStep;
+
+impl Counter for OneStep {
+    ghost counts = { false };
+
+    ghost left = { λ _ _. 1 };
+
+    #[inline(always)]
+    fn has_room(&self, _event: Event) -> bool {
+        true
+    }
+
+    #[inline(always)]
+    fn count(&mut self, _event: Event) {}
+}
+
 impl Counter for EventsLeft {
     ghost counts = { true };
 

@@ -1,14 +1,15 @@
 //! Instructions of one hart, one after another, as long as their words are kept decoded.
-ghost use Rattle.std.specs.Prelude.{◌≡◌, ◌-◌, ◌%◌, ◌<◌, ◌≤◌, true, IfErr, IfOk, Ok, OnErr};
+ghost use Rattle.std.specs.Prelude.{◌≡◌, ◌-◌, ◌%◌, ◌<◌, ◌≤◌, true, false, IfErr, IfOk, Ok, OnErr};
 ghost use Rattle.rv_hart.specs.Events.{SpentBy};
 ghost use Rattle.rv_hart.specs.Running.{Ran};
 ghost use Rattle.rv_hart.specs.Step.{step_of};
 ghost use Rattle.rv_hart.specs.Stepping.{state_of};
+ghost use Rattle.rv_hart.specs.private.Continuing.{ended_retired};
 ghost use Rattle.rv_hart.specs.private.Counting.{HaltsAt};
 ghost use Rattle.rv_hart.specs.private.Decoding.{IsCode, HasInstructionAt};
 ghost use Rattle.rv_hart.specs.private.Indexing.{state_at, word_address};
 
-use crate::counting::{Counter, Halt};
+use crate::counting::{Counter, Halt, OneStep};
 use crate::decoded_code::{pc_of, word_at};
 use crate::execute::{Continuation, carry_out};
 use crate::hart::Hart;
@@ -17,10 +18,9 @@ use rv_memory::ProgramMemory;
 use rv_table::Inst;
 
 /// Does the instruction at an index and those that follow it, as long as they retire and their words are kept, up to a
-/// given number and as far as the counter has room, and says how many of these are left. All instructions of a machine
-/// are carried out here: the code of one is large, and LLVM puts it into the loop only where it is called from nowhere
-/// else. The index is in a register, since it is no part of the hart, whose registers are an array in memory. No index
-/// is tested but that of a target, since the last word is not an instruction.
+/// given number and as far as the counter has room, and says how many of these are left. The index is in a register,
+/// since it is no part of the hart, whose registers are an array in memory. No index is tested but that of a target,
+/// since the last word is not an instruction.
 #[inline(always)]
 fn run_loop<C: Counter>(
     items: &[Inst],
@@ -94,4 +94,36 @@ pub(crate) fn run_decoded<C: Counter>(
     let (left, last) = run_loop(items, base, hart, &mut index, memory, counter, most);
     hart.pc = pc_of(base, index);
     (most - left, last)
+}
+
+/// Whether an instruction that was carried out so retired.
+#[inline(always)]
+fn ended_retired(last: &Result<Continuation, Halt>) -> bool
+    ensures { result ≡ ended_retired last.now }
+{
+    matches!(last, Ok(Continuation::Next | Continuation::Outside))
+}
+
+/// Does the instruction at an index, where pc is, if it retires, and says whether it did; else nothing has changed. It
+/// saves fewer registers than the loop, and its answer is in one.
+#[inline(never)]
+pub(crate) fn step_decoded(
+    items: &[Inst],
+    base: u32,
+    first: usize,
+    hart: &mut Hart,
+    memory: &mut ProgramMemory<'_>,
+) -> bool
+    requires base { base % 4 ≡ 0 }
+    requires pc { word_address base first ≡ hart.old.pc }
+    requires first { HasInstructionAt memory.old base items.now first }
+    ensures ran { result ≡ true → Ran 1 (state_of hart.old memory.old) (state_of hart.new memory.new) }
+    ensures same { result ≡ false → state_of hart.new memory.new ≡ state_of hart.old memory.old }
+{
+    let mut index = first;
+    let inst = word_at(items, index);
+    let count = items.len();
+    let last = carry_out(hart, &mut index, base, count, memory, &mut OneStep, inst);
+    hart.pc = pc_of(base, index);
+    ended_retired(&last)
 }

@@ -1,5 +1,5 @@
 //! The memory of a program with the words of it that are decoded.
-ghost use Rattle.std.specs.Prelude.{◌≡◌, ◌<◌, ◌≤◌, ◌*◌, ◌^◌, true, IfErr, IfOk, IfSome, Ok, OnErr, length};
+ghost use Rattle.std.specs.Prelude.{◌≡◌, ◌<◌, ◌≤◌, ◌*◌, ◌^◌, true, false, IfErr, IfOk, IfSome, Ok, OnErr, length};
 ghost use Rattle.std.specs.Prelude.{option_map};
 ghost use Rattle.elf_image.specs.declared.elf.TheConstants.{PF_W};
 ghost use Rattle.rv_memory.specs.AddressSpace.{is_size, loaded, stored, may_all, fetched_at, first_memory};
@@ -15,7 +15,7 @@ use crate::counting::{Counter, Halt};
 use crate::decoded_code::{
     DecodedCode, END, decoded_at, decoded_regions, is_illegal, longest, word_at,
 };
-use crate::decoded_run::run_decoded;
+use crate::decoded_run::{run_decoded, step_decoded};
 use crate::hart::Hart;
 use crate::outcome::{Cause, Stepped};
 use elf_image::{Image, RangeTable};
@@ -99,6 +99,25 @@ impl<'a> Space<'a> {
             return Some(decode(word));
         };
         Some(*word_at(code.items.as_slice(), index))
+    }
+
+    /// Does the instruction at pc, if its word is kept and it retires, and says whether it did; else nothing has changed.
+    #[inline(always)]
+    pub(crate) fn step_kept(&mut self, hart: &mut Hart) -> bool
+        ensures ran { result ≡ true → Ran 1 (state_of hart.old self.old) (state_of hart.new self.new) }
+        ensures same { result ≡ false → state_of hart.new self.new ≡ state_of hart.old self.old }
+    {
+        let found = decoded_at(&self.decoded, self.likely, &self.memory, hart.pc);
+        let Some((code, first)) = found else {
+            return false;
+        };
+        step_decoded(
+            code.items.as_slice(),
+            code.base,
+            first,
+            hart,
+            &mut self.memory,
+        )
     }
 
     /// Does instructions of the hart as long as they retire, up to a given number, and one at least: the one at pc,

@@ -24,6 +24,19 @@ fn without_full(last: Result<Stepped, Halt>) -> Result<Stepped, Memory>
     }
 }
 
+/// Does one instruction of the hart, whose word isn't kept or which doesn't retire.
+#[cold]
+#[inline(never)]
+fn step_slow(hart: &mut Hart, space: &mut Space) -> Result<Stepped, Memory>
+    ensures ok { IfOk result (λ stepped. (state_of hart.new space.new, stepped)
+        ≡ step_of (state_of hart.old space.old)) }
+    ensures err { OnErr result (state_of hart.new space.new ≡ state_of hart.old space.old) }
+    ensures memory { OnErr result (StoresNow (state_of hart.old space.old)) }
+{
+    let (_, last) = space.run_some(hart, &mut NoCounter, 1);
+    without_full(last)
+}
+
 /// Does one instruction of the hart. `Memory` comes only for a store, and nothing has changed then.
 #[inline(always)]
 pub fn step(hart: &mut Hart, space: &mut Space) -> Result<Stepped, Memory>
@@ -33,12 +46,10 @@ pub fn step(hart: &mut Hart, space: &mut Space) -> Result<Stepped, Memory>
     // Memory runs out only in a store that retires.
     ensures memory { OnErr result (StoresNow (state_of hart.old space.old)) }
 {
-    let (count, last) = space.run_some(hart, &mut NoCounter, 1);
-    // LLVM keeps in memory how the last one ended, and so it is not looked at where one retired
-    if count > 0 {
+    if space.step_kept(hart) {
         return Ok(Stepped::Retired);
     }
-    without_full(last)
+    step_slow(hart, space)
 }
 
 /// Does instructions of the hart as long as they retire, up to `most`, and as far as the counter has room.

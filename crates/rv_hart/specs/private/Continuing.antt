@@ -1,5 +1,6 @@
 -- How a hart goes on among the words that are kept.
-use Rattle.std.specs.Prelude.{◌≡◌, ◌≢◌, ℕ, ◌+◌, ◌<◌}
+use Rattle.std.specs.Prelude.{◌≡◌, ◌≢◌, ℕ, ◌+◌, ◌<◌, Bool, true, false, Result, Ok, Err}
+use Rattle.rv_hart.specs.declared.counting.Halt.{Halt}
 use Rattle.rv_hart.specs.declared.execute.Continuation.{Continuation}
 use Rattle.rv_hart.specs.declared.execute.Continuation.TheVariants as continuation
 use Rattle.rv_hart.specs.declared.outcome.Stepped.{Stepped}
@@ -27,3 +28,11 @@ Continues count old new (continuation.Stopped how) = (how ≢ stepped.Retired) �
 abbrev pub ContinuesBy : Op → ℕ → ℕ → ℕ → Continuation → Type 0
 ContinuesBy op count old new how =
     (op ≡ ops.Illegal → how ≡ continuation.Illegal) × (op ≢ ops.Illegal → Continues count old new how)
+
+-- whether an instruction that was carried out so retired
+abbrev pub ended_retired : Result Continuation Halt → Bool
+ended_retired (Ok continuation.Next) = true
+ended_retired (Ok continuation.Outside) = true
+ended_retired (Ok continuation.Illegal) = false
+ended_retired (Ok (continuation.Stopped how)) = false
+ended_retired (Err halt) = false
