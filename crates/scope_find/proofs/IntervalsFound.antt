@@ -1,5 +1,5 @@
 -- Intervals are found by a binary search, and lists keep their indices.
-use Rattle.std.proofs.Common.{◌≡◌, ℕ, zero, suc, ◌+◌, ◌-◌, ◌<◌, ◌≤◌, Bool, true, false, cond, leb, List, [], ◌∷◌, ◌++◌, length, get_or, take, Some, None, sym, ap, ◌∙◌, arith}
+use Rattle.std.proofs.Common.{◌≡◌, ℕ, zero, suc, ◌+◌, ◌-◌, ◌<◌, ◌≤◌, true, false, leb, List, [], ◌∷◌, ◌++◌, length, get_or, take, Some, None, refl, sym, ap, subst, ◌∙◌, arith}
 use Rattle.std.specs.Prelude.{slice_get, Vec, nat_eq}
 use Rattle.std.specs.Global.{Global}
 use Rattle.std.specs.List.Sorted.{IsPartitionPoint}
@@ -63,14 +63,25 @@ listed_at (x ∷ xs) zero v e = some_items x v e
     some_items x v e = let f : x ≡ v = cc in ap (λ (w : Vec ℕ Global). Some w.items) f
 listed_at (x ∷ xs) (suc at) v e = listed_at xs at v e
 
-pub list_there : (lists : List (Vec ℕ Global)) (at : ℕ) (list k : Vec ℕ Global) → slice_get lists at ≡ Some k → pointwise nat_eq list.items k.items ≡ true → slice_get (numbers_of lists) at ≡ Some list.items
-list_there lists at list k there same = listed_at lists at k there ∙ ap (λ (ns : List ℕ). Some ns) (sym (same_text list.items k.items (sym same)))
+pub list_there : (lists : List (Vec ℕ Global)) (at : ℕ) (list : List ℕ) (k : Vec ℕ Global) → slice_get lists at ≡ Some k → pointwise nat_eq k.items list ≡ true → slice_get (numbers_of lists) at ≡ Some list
+list_there lists at list k there same = listed_at lists at k there ∙ ap (λ (ns : List ℕ). Some ns) (same_text k.items list (sym same))
+
+last_there : (lists : List (Vec ℕ Global)) (list : Vec ℕ Global) → slice_get (numbers_of (lists ++ list ∷ [])) (length lists) ≡ Some list.items
+last_there [] list = refl
+last_there (x ∷ xs) list = last_there xs list
 
 front_kept : (xs ys : List (List ℕ)) (at : ℕ) (ns : List ℕ) → slice_get xs at ≡ Some ns → slice_get (xs ++ ys) at ≡ Some ns
 front_kept [] ys at ns e = absurd cc
 front_kept (x ∷ xs) ys zero ns e = e
 front_kept (x ∷ xs) ys (suc at) ns e = front_kept xs ys at ns e
 
-pub lists_kept : (b : Bool) (lists : List (Vec ℕ Global)) (list : Vec ℕ Global) → KeepsLists (numbers_of lists) (numbers_of (cond b lists (lists ++ list ∷ [])))
-lists_kept true lists list at ns e = e
-lists_kept false lists list at ns e = rw map-append (front_kept (numbers_of lists) (list.items ∷ []) at ns e)
+lists_kept : (lists : List (Vec ℕ Global)) (list : Vec ℕ Global) → KeepsLists (numbers_of lists) (numbers_of (lists ++ list ∷ []))
+lists_kept lists list at ns e = rw map-append (front_kept (numbers_of lists) (list.items ∷ []) at ns e)
+
+pub appended_there : (lists new : List (Vec ℕ Global)) (list : Vec ℕ Global) (at : ℕ) → new ≡ lists ++ list ∷ [] → at ≡ length lists → slice_get (numbers_of new) at ≡ Some list.items
+appended_there lists new list at is count =
+    subst (λ (n : ℕ). slice_get (numbers_of new) n ≡ Some list.items) (sym count)
+    (subst (λ (vs : List (Vec ℕ Global)). slice_get (numbers_of vs) (length lists) ≡ Some list.items) (sym is) (last_there lists list))
+
+pub appended_kept : (lists new : List (Vec ℕ Global)) (list : Vec ℕ Global) → new ≡ lists ++ list ∷ [] → KeepsLists (numbers_of lists) (numbers_of new)
+appended_kept lists new list is = subst (λ (vs : List (Vec ℕ Global)). KeepsLists (numbers_of lists) (numbers_of vs)) (sym is) (lists_kept lists list)

@@ -41,7 +41,7 @@ impl<'a> Model for Finder<'a> {
     } };
 
     ghost invariant = { λ finder.
-        IsFoundIn finder.structure.now finder.found.intervals.items (numbers_of finder.found.lists.keys) };
+        IsFoundIn finder.structure.now finder.found.intervals.items (numbers_of finder.found.lists.items) };
 }
 
 fn subprogram_of(interval: Option<AddressInterval>) -> Option<u32>
@@ -55,12 +55,12 @@ fn subprogram_of(interval: Option<AddressInterval>) -> Option<u32>
 
 /// The numbers of the calls that are inlined in an interval, the outermost first.
 fn numbers_in(found: &AddressIntervals, interval: Option<AddressInterval>) -> &[u32]
-    ensures { result.now ≡ numbers_in (numbers_of found.now.lists.keys) interval }
+    ensures { result.now ≡ numbers_in (numbers_of found.now.lists.items) interval }
 {
     let Some(interval) = interval else {
         return &[];
     };
-    match found.lists.get_index(interval.inlines) {
+    match found.lists.get(interval.inlines) {
         Some(list) => list.as_slice(),
         None => &[],
     }

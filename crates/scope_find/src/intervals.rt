@@ -10,7 +10,6 @@ ghost use Rattle.scope_find.specs.private.Intervals.{IsIntervalPut, IsSplit, IsS
 use crate::held::{inlined_into, subprogram_held, take_event};
 use crate::span::{Event, Span, events_of};
 use dwarf_inline::Structure;
-use indexmap::IndexSet;
 use prof_bytes::Memory;
 use std::alloc::Global;
 use std::collections::BTreeSet;
@@ -24,20 +23,44 @@ pub(crate) struct AddressInterval {
     pub inlines: usize,
 }
 
-/// All intervals in the order of their starts, and the lists of numbers of inlined subroutines that they share.
+/// All intervals in the order of their starts, and the lists of numbers of inlined subroutines. An interval shares the
+/// list of the one before it where both have the same.
 #[derive(Drop)]
 pub(crate) struct AddressIntervals {
     pub intervals: Vec<AddressInterval>,
-    pub lists: IndexSet<Vec<u32>>,
+    pub lists: Vec<Vec<u32>>,
 }
 
-/// The index of a list among the others; it is appended where it is not among them.
-fn put_list(lists: &mut IndexSet<Vec<u32>>, list: Vec<u32>) -> Result<usize, Memory>
-    ensures there { IfOk result (λ at. slice_get (numbers_of lists.new.keys) at ≡ Some list.items) }
-    ensures kept { OnOk result (KeepsLists (numbers_of lists.old.keys) (numbers_of lists.new.keys)) }
+/// Whether the list with an index is this one.
+fn is_at(lists: &[Vec<u32>], at: usize, list: &[u32]) -> bool
+    ensures { result ≡ true → slice_get (numbers_of lists.now) at ≡ Some list.now }
 {
-    let (at, _) = lists.insert_full(list)?;
+    match lists.get(at) {
+        Some(known) => known.as_slice() == list,
+        None => false,
+    }
+}
+
+/// Appends a list; its index.
+fn append_list(lists: &mut Vec<Vec<u32>>, list: Vec<u32>) -> Result<usize, Memory>
+    ensures there { IfOk result (λ at. slice_get (numbers_of lists.new.items) at ≡ Some list.items) }
+    ensures kept { OnOk result (KeepsLists (numbers_of lists.old.items) (numbers_of lists.new.items)) }
+{
+    let at = lists.len();
+    lists.push(list)?;
     Ok(at)
+}
+
+/// The index of a list, which is appended unless it is the last one.
+fn put_list(lists: &mut Vec<Vec<u32>>, list: Vec<u32>) -> Result<usize, Memory>
+    ensures there { IfOk result (λ at. slice_get (numbers_of lists.new.items) at ≡ Some list.items) }
+    ensures kept { OnOk result (KeepsLists (numbers_of lists.old.items) (numbers_of lists.new.items)) }
+{
+    let last = lists.len().saturating_sub(1);
+    if is_at(lists.as_slice(), last, list.as_slice()) {
+        return Ok(last);
+    }
+    append_list(lists, list)
 }
 
 /// The numbers of the calls that are inlined into a subprogram where these ranges are open.
@@ -71,8 +94,8 @@ fn put_interval(
     requires whole { IsWholeStructure structure.now }
     requires spans { AreSpans structure.now held.now.keys }
     ensures interval { OnOk result (IsIntervalPut structure.now held.now.keys start found.old.intervals.items
-        found.new.intervals.items (numbers_of found.new.lists.keys)) }
-    ensures kept { OnOk result (KeepsLists (numbers_of found.old.lists.keys) (numbers_of found.new.lists.keys)) }
+        found.new.intervals.items (numbers_of found.new.lists.items)) }
+    ensures kept { OnOk result (KeepsLists (numbers_of found.old.lists.items) (numbers_of found.new.lists.items)) }
 {
     let subprogram = subprogram_held(structure, held);
     let numbers = calls_of(alloc, structure, held, subprogram)?;
@@ -110,9 +133,9 @@ fn sweep(
     requires sorted { IsNonDecreasingBy (λ e. e.address) events.now }
     requires there { index < length events.now }
     requires swept { IsSwept structure.now events.now index held.old.keys found.old.intervals.items
-        (numbers_of found.old.lists.keys) }
+        (numbers_of found.old.lists.items) }
     ensures { OnOk result (IsSwept structure.now events.now (index + 1) held.new.keys found.new.intervals.items
-        (numbers_of found.new.lists.keys)) }
+        (numbers_of found.new.lists.items)) }
 {
     let event = events[index];
     take_event(held, event)?;
@@ -128,7 +151,7 @@ pub(crate) fn intervals_of(
     alloc: Global,
     structure: &Structure<'_>,
 ) -> Result<AddressIntervals, Memory>
-    ensures { IfOk result (λ found. IsFoundIn structure.now found.intervals.items (numbers_of found.lists.keys)) }
+    ensures { IfOk result (λ found. IsFoundIn structure.now found.intervals.items (numbers_of found.lists.items)) }
 {
     let events = events_of(alloc, structure)?;
     let mut held = BTreeSet::new(alloc);
@@ -136,7 +159,7 @@ pub(crate) fn intervals_of(
     let intervals = Vec::with_capacity(alloc, events.len())?;
     let mut found = AddressIntervals {
         intervals,
-        lists: IndexSet::new(alloc),
+        lists: Vec::new(alloc),
     };
     for index in 0..events.len() {
         sweep(

@@ -3,7 +3,7 @@
 //!
 //! It promises that a binary search finds the same as a walk over all subprograms and inlined subroutines, the first in
 //! section order before all others (DWARF 5, sections 3.3.8 and 6.2). Below are `dwarf_inline`, `dwarf_line`,
-//! `dwarf_forms`, `elf_image`, `address_ranges`, `tree_types`, `scope_types`, `prof_bytes` and `indexmap`.
+//! `dwarf_forms`, `elf_image`, `address_ranges`, `tree_types`, `scope_types` and `prof_bytes`.
 #![tactic(auto)]
 
 mod finder;

@@ -2,4 +2,4 @@ use Rattle.scope_find.specs.private.Intervals.{numbers_of, IsSwept}
 use Rattle.scope_find.proofs.intervals.intervals_of.Given as goal
 
 abbrev pub invariant-loop-index : goal.invariant-loop-index
-invariant-loop-index l = IsSwept l.structure l.events.items l.index l.held.keys l.found.intervals.items (numbers_of l.found.lists.keys)
+invariant-loop-index l = IsSwept l.structure l.events.items l.index l.held.keys l.found.intervals.items (numbers_of l.found.lists.items)

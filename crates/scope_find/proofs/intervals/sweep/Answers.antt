@@ -8,7 +8,7 @@ use Rattle.scope_find.proofs.intervals.sweep.Goals as goal
 pub returns-then-is_followed : goal.returns-then-is_followed
 returns-then-is_followed c =
     let at : slice_get c.args.events.now c.args.index ≡ Some (get_or c.args.events.now c.args.index no_event) = slice_get-get_or c.args.events.now c.args.index no_event c.requires.there in
-    swept_on c.args.structure.now c.args.events.now c.args.index (get_or c.args.events.now c.args.index no_event) c.args.held.now.keys c.take_event.new.held.keys c.args.found.now.intervals.items (numbers_of c.args.found.now.lists.keys)
+    swept_on c.args.structure.now c.args.events.now c.args.index (get_or c.args.events.now c.args.index no_event) c.args.held.now.keys c.take_event.new.held.keys c.args.found.now.intervals.items (numbers_of c.args.found.now.lists.items)
     c.requires.events c.requires.sorted at c.in_ok-take_event.ensures (c.if-is_followed.ensures refl) c.requires.swept
 
 pub put_interval-requires-clause-spans : goal.put_interval-requires-clause-spans
@@ -22,5 +22,5 @@ returns c =
     let at : slice_get c.args.events.now c.args.index ≡ Some (get_or c.args.events.now c.args.index no_event) = slice_get-get_or c.args.events.now c.args.index no_event c.requires.there in
     both_ok c.put_interval.result _ _ _ c.put_interval.ensures.interval c.put_interval.ensures.kept
     (λ put keeps.
-    swept_put c.args.structure.now c.args.events.now c.args.index (get_or c.args.events.now c.args.index no_event) c.args.held.now.keys c.take_event.new.held.keys c.args.found.now.intervals.items c.put_interval.new.found.intervals.items (numbers_of c.args.found.now.lists.keys) (numbers_of c.put_interval.new.found.lists.keys)
+    swept_put c.args.structure.now c.args.events.now c.args.index (get_or c.args.events.now c.args.index no_event) c.args.held.now.keys c.take_event.new.held.keys c.args.found.now.intervals.items c.put_interval.new.found.intervals.items (numbers_of c.args.found.now.lists.items) (numbers_of c.put_interval.new.found.lists.items)
     c.requires.events c.requires.sorted at c.in_ok-take_event.ensures put keeps c.requires.swept)

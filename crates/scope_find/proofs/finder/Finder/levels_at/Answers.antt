@@ -8,7 +8,7 @@ use Rattle.scope_find.proofs.finder.Finder.levels_at.Goals as goal
 pub overflow_cast-result : goal.overflow_cast-result
 overflow_cast-result c =
     let p : ProgramScopes = record { structure = c.self.inside.structure.now; lines = c.self.inside.lines.now; image = c.self.inside.image.now } in
-    let lists = numbers_of c.self.inside.found.lists.keys in
+    let lists = numbers_of c.self.inside.found.lists.items in
     let right = right_at p.structure c.self.inside.found.intervals.items c.as_slice.result.now lists c.args.pc c.interval_at-interval.result c.self.invariant c.interval_at-interval.ensures c.as_slice.ensures.value in
     let few = interval_few p c.args.pc lists c.interval_at-interval.result right in
     let most : length p.structure.items < 2 ^ 31 = c.self.invariant.whole.few in
@@ -18,7 +18,7 @@ overflow_cast-result c =
 pub returns : goal.returns
 returns c =
     let p : ProgramScopes = record { structure = c.self.inside.structure.now; lines = c.self.inside.lines.now; image = c.self.inside.image.now } in
-    let lists = numbers_of c.self.inside.found.lists.keys in
+    let lists = numbers_of c.self.inside.found.lists.items in
     let right = right_at p.structure c.self.inside.found.intervals.items c.as_slice.result.now lists c.args.pc c.interval_at-interval.result c.self.invariant c.interval_at-interval.ensures c.as_slice.ensures.value in
     ap (λ (ns : List ℕ). length ns) c.numbers_in.ensures
     ∙ interval_levels p c.args.pc lists c.interval_at-interval.result right
