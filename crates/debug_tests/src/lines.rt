@@ -18,6 +18,7 @@ mod gcc_lines;
 mod programs;
 mod worked;
 
+use faults::{MadeFrom, Row};
 use programs::{Program, other_lines};
 
 static COMPILED: [Program; 2] = [gcc_lines::PROGRAM, clang_lines::PROGRAM];
@@ -177,40 +178,11 @@ fn is_at_fault(alloc: Global, line: &[u8], texts: &[u8], offset: u32) -> Result<
     Ok(fault_of(alloc, by_hand::FILE, line, texts, &[0])? == Some(offset))
 }
 
-fn length_is_at_fault(alloc: Global, fields: &[&[u8]]) -> Result<bool, Unread> {
-    let line = joined(alloc, fields)?;
-    is_at_fault(alloc, &line, b"", 0)
-}
-
-/// The first table whose length is not at fault.
-fn other_length(alloc: Global) -> Result<Option<&'static str>, Unread> {
-    for (name, fields) in &faults::LENGTH_FAULTS {
-        if !length_is_at_fault(alloc, fields)? {
-            return Ok(Some(*name));
-        }
-    }
-    Ok(None)
-}
-
 /// A table of the header with this change.
-fn changed_table(alloc: Global, change: &str) -> Result<Vec<u8>, Memory> {
-    let header = changed(alloc, by_hand::HEADER.as_bytes(), change.as_bytes())?;
+fn changed_table(alloc: Global, change: &[&[u8]]) -> Result<Vec<u8>, Memory> {
+    let change = joined(alloc, change)?;
+    let header = changed(alloc, by_hand::HEADER.as_bytes(), &change)?;
     table(alloc, &header, &by_hand::PLAIN)
-}
-
-fn change_is_at_fault(alloc: Global, change: &str) -> Result<bool, Unread> {
-    let line = changed_table(alloc, change)?;
-    is_at_fault(alloc, &line, b"", 0)
-}
-
-/// The first change of a byte of the header that is not at fault.
-fn other_change(alloc: Global) -> Result<Option<&'static str>, Unread> {
-    for (name, change) in &faults::HEADER_CHANGES {
-        if !change_is_at_fault(alloc, change)? {
-            return Ok(Some(*name));
-        }
-    }
-    Ok(None)
 }
 
 /// A header with these fields after line_range.
@@ -226,31 +198,31 @@ fn table_of_fields(alloc: Global, fields: &[&[u8]]) -> Result<Vec<u8>, Memory> {
     table(alloc, &header, &by_hand::PLAIN)
 }
 
-fn header_is_at_fault(alloc: Global, fields: &[&[u8]], texts: &[u8]) -> Result<bool, Unread> {
-    let line = table_of_fields(alloc, fields)?;
-    is_at_fault(alloc, &line, texts, 0)
-}
-
-/// The first header that is not at fault.
-fn other_header(alloc: Global) -> Result<Option<&'static str>, Unread> {
-    for (name, fields, texts) in &faults::HEADER_FAULTS {
-        if !header_is_at_fault(alloc, fields, texts)? {
-            return Ok(Some(*name));
-        }
+/// The bytes of `.debug_line` that pieces make.
+fn line_of(alloc: Global, made: &MadeFrom, pieces: &[&[u8]]) -> Result<Vec<u8>, Memory> {
+    match made {
+        MadeFrom::Bytes => joined(alloc, pieces),
+        MadeFrom::Change => changed_table(alloc, pieces),
+        MadeFrom::Fields => table_of_fields(alloc, pieces),
+        MadeFrom::Opcodes => table_of_hex(alloc, by_hand::HEADER, pieces),
     }
-    Ok(None)
 }
 
-fn opcode_is_at_fault(alloc: Global, program: &[&[u8]], opcode: u32) -> Result<bool, Unread> {
-    let line = table_of_hex(alloc, by_hand::HEADER, program)?;
-    is_at_fault(alloc, &line, b"", by_hand::PROGRAM.wrapping_add(opcode))
+/// Whether a row is at fault where it says.
+fn row_is_at_fault(alloc: Global, made: &MadeFrom, row: &Row) -> Result<bool, Unread> {
+    let line = line_of(alloc, made, row.1)?;
+    let start = match made {
+        MadeFrom::Opcodes => by_hand::PROGRAM,
+        MadeFrom::Bytes | MadeFrom::Change | MadeFrom::Fields => 0,
+    };
+    is_at_fault(alloc, &line, row.2, start.wrapping_add(row.3))
 }
 
-/// The first program that is not at fault at its opcode.
-fn other_program(alloc: Global) -> Result<Option<&'static str>, Unread> {
-    for (name, program, opcode) in &faults::PROGRAM_FAULTS {
-        if !opcode_is_at_fault(alloc, program, *opcode)? {
-            return Ok(Some(*name));
+/// The first of these rows that is not at fault, or not where it says.
+fn other_row(alloc: Global, made: &MadeFrom, rows: &[Row]) -> Result<Option<&'static str>, Unread> {
+    for row in rows {
+        if !row_is_at_fault(alloc, made, row)? {
+            return Ok(Some(row.0));
         }
     }
     Ok(None)
@@ -258,10 +230,10 @@ fn other_program(alloc: Global) -> Result<Option<&'static str>, Unread> {
 
 /// The first table made by hand that is not at fault, or not where it should be.
 fn other_fault(alloc: Global) -> Result<Option<&'static str>, Unread> {
-    let length = other_length(alloc)?;
-    let change = other_change(alloc)?;
-    let header = other_header(alloc)?;
-    let program = other_program(alloc)?;
+    let length = other_row(alloc, &MadeFrom::Bytes, &faults::LENGTH_FAULTS)?;
+    let change = other_row(alloc, &MadeFrom::Change, &faults::HEADER_CHANGES)?;
+    let header = other_row(alloc, &MadeFrom::Fields, &faults::HEADER_FAULTS)?;
+    let program = other_row(alloc, &MadeFrom::Opcodes, &faults::PROGRAM_FAULTS)?;
     Ok(length.or(change).or(header).or(program))
 }
 

@@ -108,12 +108,6 @@ fn wrong_row(alloc: Global) -> Result<Option<&'static str>, Fail<TooManyFrames>>
     Ok(None)
 }
 
-#[test]
-fn columns_behind_others(rt: HostRuntime) -> Result<(), Failed> {
-    assert_eq!(rt; wrong_row(rt.alloc())?, None);
-    Ok(())
-}
-
 /// A path of 512 frames.
 fn deep_path(alloc: Global, pc: u32) -> Result<RawPath, Memory> {
     let mut frames = Vec::new(alloc);
@@ -165,7 +159,8 @@ fn above_the_limit(alloc: Global) -> Result<(bool, u32), Fail<TooManyFrames>> {
 }
 
 #[test]
-fn frames_of_both_at_their_limit(rt: HostRuntime) -> Result<(), Failed> {
+fn columns_behind_others_and_their_frames_at_the_limit(rt: HostRuntime) -> Result<(), Failed> {
+    assert_eq!(rt; wrong_row(rt.alloc())?, None);
     assert_eq!(rt; at_the_limit(rt.alloc())?, (true, 2));
     assert_eq!(rt; above_the_limit(rt.alloc())?, (false, 1));
     Ok(())

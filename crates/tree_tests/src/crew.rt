@@ -7,7 +7,7 @@ ghost use Rattle.thread_cct.specs.Plan.{FitsExpansion, expanded};
 use crate::plan::{Innermost, one_column};
 use merge_crew::{Crew, Crews, WorkCrew, merge_all};
 use prof_bytes::{Fail, Memory};
-use prof_devices::{Gate, OpenGate};
+use prof_devices::Gate;
 use scope_types::Expand;
 use std::alloc::Global;
 use std::sync::atomic::{AtomicBool, AtomicU32, Ordering};
@@ -177,37 +177,6 @@ fn other_piece(crew: &Crew, workers: u32) -> Option<&'static str> {
     None
 }
 
-fn other_merge<R: Threads + Sync>(
-    rt: &R,
-    alloc: Global,
-    ccts: &Ccts,
-    workers: u32,
-) -> Result<Option<&'static str>, Fail<TooManyScopes>> {
-    let crew = merged(rt, alloc, ccts, workers, &OpenGate)?;
-    Ok(other_piece(&crew, workers))
-}
-
-/// The first number of workers whose crew has something otherwise, and what.
-fn other_workers<R: Threads + Sync>(
-    rt: &R,
-    alloc: Global,
-    ccts: &Ccts,
-) -> Result<Option<(u32, &'static str)>, Fail<TooManyScopes>> {
-    for workers in [1, 2, 16] {
-        if let Some(other) = other_merge(rt, alloc, ccts, workers)? {
-            return Ok(Some((workers, other)));
-        }
-    }
-    Ok(None)
-}
-
-#[test]
-fn workers_merge_all_pieces(rt: HostRuntime) -> Result<(), Failed> {
-    let ccts = paths(rt.alloc(), 2)?;
-    assert_eq!(rt; other_workers(&rt, rt.alloc(), &ccts)?, None);
-    Ok(())
-}
-
 /// What of the passes of a given number of workers over two chunks is otherwise: each of the pieces 0 to 31 is passed
 /// once, and by one worker in order.
 fn other_pass(gate: &Tally, workers: u32) -> Option<&'static str> {
@@ -223,25 +192,26 @@ fn other_pass(gate: &Tally, workers: u32) -> Option<&'static str> {
     None
 }
 
-fn other_passes<R: Threads + Sync>(
+/// What a given number of workers, and their passes of a gate, have otherwise.
+fn other_merge<R: Threads + Sync>(
     rt: &R,
     alloc: Global,
     ccts: &Ccts,
     workers: u32,
 ) -> Result<Option<&'static str>, Fail<TooManyScopes>> {
     let gate = Tally::new();
-    let _crew = merged(rt, alloc, ccts, workers, &gate)?;
-    Ok(other_pass(&gate, workers))
+    let crew = merged(rt, alloc, ccts, workers, &gate)?;
+    Ok(other_pass(&gate, workers).or(other_piece(&crew, workers)))
 }
 
-/// The first number of workers whose passes are otherwise, and in what.
-fn other_tally<R: Threads + Sync>(
+/// The first number of workers whose crew or passes are otherwise, and in what.
+fn other_workers<R: Threads + Sync>(
     rt: &R,
     alloc: Global,
     ccts: &Ccts,
 ) -> Result<Option<(u32, &'static str)>, Fail<TooManyScopes>> {
     for workers in [1, 2, 16] {
-        if let Some(other) = other_passes(rt, alloc, ccts, workers)? {
+        if let Some(other) = other_merge(rt, alloc, ccts, workers)? {
             return Ok(Some((workers, other)));
         }
     }
@@ -249,9 +219,9 @@ fn other_tally<R: Threads + Sync>(
 }
 
 #[test]
-fn gate_is_passed_once_for_each_piece(rt: HostRuntime) -> Result<(), Failed> {
+fn workers_merge_all_pieces_and_pass_once_for_each(rt: HostRuntime) -> Result<(), Failed> {
     let ccts = paths(rt.alloc(), 2)?;
-    assert_eq!(rt; other_tally(&rt, rt.alloc(), &ccts)?, None);
+    assert_eq!(rt; other_workers(&rt, rt.alloc(), &ccts)?, None);
     Ok(())
 }
 
@@ -281,16 +251,6 @@ fn side_by_side<R: Threads + Sync>(
     Ok((missed, other, crew.present, unnamed(&crew, 4)))
 }
 
-#[test]
-fn workers_0_to_3_run_side_by_side(rt: HostRuntime) -> Result<(), Failed> {
-    let ccts = paths(rt.alloc(), 4)?;
-    assert_eq!(rt;
-        side_by_side(&rt, rt.alloc(), &ccts)?,
-        (false, false, 0, None)
-    );
-    Ok(())
-}
-
 /// What a crew that hands out other stripes merges of paths.
 fn merged_elsewhere<R: Threads + Sync>(
     rt: &R,
@@ -315,8 +275,12 @@ fn is_empty<R: Threads + Sync>(
 }
 
 #[test]
-fn other_stripes_are_handed_out(rt: HostRuntime) -> Result<(), Failed> {
-    let ccts = paths(rt.alloc(), 2)?;
+fn workers_0_to_3_run_side_by_side_and_other_stripes_are_handed_out(
+    rt: HostRuntime,
+) -> Result<(), Failed> {
+    let ccts = paths(rt.alloc(), 4)?;
+    let met = side_by_side(&rt, rt.alloc(), &ccts)?;
+    assert_eq!(rt; met, (false, false, 0, None));
     assert!(rt; is_empty(&rt, rt.alloc(), &ccts)?);
     Ok(())
 }

@@ -180,12 +180,6 @@ fn other_in_rows(alloc: Global) -> Result<Option<&'static str>, Memory> {
     Ok(other_part(&tree, 3, &NODES, &COUNTS))
 }
 
-#[test]
-fn nodes_of_a_trie_come_in_preorder(rt: HostRuntime) -> Result<(), Fail> {
-    assert_eq!(rt; other_in_rows(rt.alloc())?, None);
-    Ok(())
-}
-
 /// The tree of an empty trie.
 fn tree_of_nothing(alloc: Global) -> Result<Tree, Memory> {
     join_trie(alloc, &Trie::empty(alloc), 0)
@@ -194,12 +188,6 @@ fn tree_of_nothing(alloc: Global) -> Result<Tree, Memory> {
 fn other_in_nothing(alloc: Global) -> Result<Option<&'static str>, Memory> {
     let tree = tree_of_nothing(alloc)?;
     Ok(other_part(&tree, 0, &[], &[]))
-}
-
-#[test]
-fn an_empty_trie_has_an_empty_tree(rt: HostRuntime) -> Result<(), Fail> {
-    assert_eq!(rt; other_in_nothing(rt.alloc())?, None);
-    Ok(())
 }
 
 /// The tree of two tries.
@@ -214,9 +202,12 @@ fn other_in_both(alloc: Global) -> Result<Option<&'static str>, Memory> {
     Ok(other_part(&tree, 3, &NODES, &JOINED_COUNTS))
 }
 
-/// The nodes that both tries have come once, and their counts are added up.
+/// Nodes come in preorder; those that both tries have come once, and their counts are added up.
 #[test]
-fn tries_are_joined(rt: HostRuntime) -> Result<(), Fail> {
-    assert_eq!(rt; other_in_both(rt.alloc())?, None);
+fn trees_of_a_trie_of_none_and_of_two(rt: HostRuntime) -> Result<(), Fail> {
+    let one = other_in_rows(rt.alloc())?;
+    let none = other_in_nothing(rt.alloc())?;
+    let two = other_in_both(rt.alloc())?;
+    assert_eq!(rt; (one, none, two), (None, None, None));
     Ok(())
 }

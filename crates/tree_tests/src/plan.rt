@@ -14,10 +14,6 @@ use std::alloc::Global;
 use std::test::Fail as Failed;
 use thread_cct::{Ccts, Plan, TooManyFrames, TooManyScopes, samples_are_counted};
 
-/// A memo that keeps nothing.
-#[derive(Drop)]
-pub(crate) struct NoMemo;
-
 /// Expands a raw path to a given number of roots.
 #[derive(Drop)]
 struct Roots {
@@ -26,21 +22,21 @@ struct Roots {
 }
 
 impl Expand for Roots {
-    type Memo = NoMemo;
+    type Memo = ();
 
     ghost call_path = { λ e _. replicate e.scopes (Root Thread) };
 
     ghost fits = { λ _ _. Unit {0} };
 
-    fn fresh(&self) -> Result<NoMemo, Memory> {
-        Ok(NoMemo)
+    fn fresh(&self) -> Result<(), Memory> {
+        Ok(())
     }
 
     fn length(&self, _raw: &RawPath) -> u64 {
         self.scopes
     }
 
-    fn expand(&self, _memo: &mut NoMemo, _raw: &RawPath) -> Result<ScopePath, Memory> {
+    fn expand(&self, _memo: &mut (), _raw: &RawPath) -> Result<ScopePath, Memory> {
         let mut scopes = Vec::new(self.alloc);
         for _ in 0..self.scopes {
             scopes.push(Scope::Root(RootKind::Thread))?;
@@ -63,7 +59,7 @@ fn sampled_pc(raw: &RawPath) -> u32
 }
 
 impl Expand for Innermost {
-    type Memo = NoMemo;
+    type Memo = ();
 
     ghost call_path = { λ _ raw. Root Thread
         ∷ Proc (Sym (slice_index_or raw.frames 0 (record { pc = 0 })).pc)
@@ -71,15 +67,15 @@ impl Expand for Innermost {
 
     ghost fits = { λ _ _. Unit {0} };
 
-    fn fresh(&self) -> Result<NoMemo, Memory> {
-        Ok(NoMemo)
+    fn fresh(&self) -> Result<(), Memory> {
+        Ok(())
     }
 
     fn length(&self, _raw: &RawPath) -> u64 {
         3
     }
 
-    fn expand(&self, _memo: &mut NoMemo, raw: &RawPath) -> Result<ScopePath, Memory> {
+    fn expand(&self, _memo: &mut (), raw: &RawPath) -> Result<ScopePath, Memory> {
         let pc = sampled_pc(raw);
         let mut scopes = Vec::new(self.alloc);
         scopes.push(Scope::Root(RootKind::Thread))?;
@@ -187,7 +183,7 @@ fn is_piece(
 fn has_piece(
     alloc: Global,
     plan: &Plan<'_>,
-    memo: &mut NoMemo,
+    memo: &mut (),
     chunk: u32,
     stripe: u32,
     wanted: &[(u32, u32, u32)],
@@ -203,7 +199,7 @@ fn has_piece(
 fn other_piece(
     alloc: Global,
     plan: &Plan<'_>,
-    memo: &mut NoMemo,
+    memo: &mut (),
 ) -> Result<Option<(u32, u32)>, Memory> {
     for (chunk, stripe, wanted) in &PIECES {
         if !has_piece(alloc, plan, memo, *chunk, *stripe, wanted)? {
@@ -229,7 +225,7 @@ fn lent<T: Sync>(value: &T) -> &T {
 
 /// The chunks and columns of a plan, and the first piece that is another one.
 fn other_part(alloc: Global, plan: &Plan<'_>) -> Result<(u32, u32, Option<(u32, u32)>), Memory> {
-    let other = other_piece(alloc, plan, &mut NoMemo)?;
+    let other = other_piece(alloc, plan, &mut ())?;
     Ok((lent(plan).chunks(), plan.columns(), other))
 }
 
@@ -241,13 +237,6 @@ fn other_part_of(
     let expand = Innermost { alloc };
     let plan = Plan::of(alloc, ccts, &expand)?;
     Ok(other_part(alloc, &plan)?)
-}
-
-#[test]
-fn pieces_of_two_chunks(rt: HostRuntime) -> Result<(), Failed> {
-    let ccts = samples(rt.alloc())?;
-    assert_eq!(rt; other_part_of(rt.alloc(), &ccts)?, (2, 2, None));
-    Ok(())
 }
 
 /// The first number of scopes that is taken and shouldn't be, or the other way round.
@@ -291,7 +280,9 @@ fn other_limits(
 }
 
 #[test]
-fn scopes_at_their_limit(rt: HostRuntime) -> Result<(), Failed> {
+fn pieces_of_two_chunks_and_scopes_at_their_limit(rt: HostRuntime) -> Result<(), Failed> {
     assert_eq!(rt; other_limits(rt.alloc())?, (None, None, None));
+    let ccts = samples(rt.alloc())?;
+    assert_eq!(rt; other_part_of(rt.alloc(), &ccts)?, (2, 2, None));
     Ok(())
 }

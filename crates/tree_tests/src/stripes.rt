@@ -86,47 +86,57 @@ fn settle_all<E: Expand>(
     Ok(())
 }
 
-/// Puts the procedure of the path with this number and its statement below the root, and how often it was sampled.
-fn put(
-    nodes: &mut Vec<Node>,
-    counts: &mut Vec<NodeCount>,
-    number: u32,
-    sampled: (u32, u32, u32),
-) -> Result<(), Memory>
+/// The column of the path with this number, how often it was sampled, and its address.
+fn sampled(number: u32) -> (u32, u32, u32) {
+    match number {
+        65 => (1, 2, 2000),
+        66 => (1, 1, 2001),
+        _ => (0, 1, number.wrapping_add(1000)),
+    }
+}
+
+/// Whether a tree has this node at an index.
+fn has_node(tree: &Tree, index: u32, parent: u32, scope: Scope) -> bool {
+    match tree.nodes().get(index as usize) {
+        Some(node) => *node == Node { parent, scope },
+        None => false,
+    }
+}
+
+/// Whether a tree has the procedure of the path with this number and its statement below the root, and its count.
+fn has_path(tree: &Tree, number: u32) -> bool
     requires { number < 1000 }
 {
-    let (column, count, pc) = sampled;
-    nodes.push(Node {
-        parent: 0,
-        scope: Scope::Proc(ProcId::Sym(pc)),
-    })?;
-    nodes.push(Node {
-        parent: 1 + 2 * number,
-        scope: Scope::Stmt(LineId::Address(pc)),
-    })?;
-    counts.push(NodeCount {
+    let (column, count, pc) = sampled(number);
+    let counted = NodeCount {
         node: 2 + 2 * number,
         column,
         count,
-    })?;
-    Ok(())
+    };
+    has_node(tree, 1 + 2 * number, 0, Scope::Proc(ProcId::Sym(pc)))
+        && has_node(
+            tree,
+            2 + 2 * number,
+            1 + 2 * number,
+            Scope::Stmt(LineId::Address(pc)),
+        )
+        && tree.counts().get(number as usize) == Some(&counted)
 }
 
-/// The nodes and the counts of the samples: a root, and by their addresses the procedures below it, each with its
-/// statement.
-fn expected(alloc: Global) -> Result<(Vec<Node>, Vec<NodeCount>), Memory> {
-    let mut nodes = Vec::new(alloc);
-    let mut counts = Vec::new(alloc);
-    nodes.push(Node {
-        parent: NO_PARENT,
-        scope: Scope::Root(RootKind::Thread),
-    })?;
-    for index in 0..65u32 {
-        put(&mut nodes, &mut counts, index, (0, 1, 1000 + index))?;
+/// What of a tree is other than the samples: a root, and by their addresses the procedures of 67 paths below it.
+fn other_than_samples(tree: &Tree) -> Option<&'static str> {
+    if tree.columns() != 2 || tree.nodes().len() != 135 || tree.counts().len() != 67 {
+        return Some("the number of columns, nodes or counts");
     }
-    put(&mut nodes, &mut counts, 65, (1, 2, 2000))?;
-    put(&mut nodes, &mut counts, 66, (1, 1, 2001))?;
-    Ok((nodes, counts))
+    if !has_node(tree, 0, NO_PARENT, Scope::Root(RootKind::Thread)) {
+        return Some("the root");
+    }
+    for number in 0..67u32 {
+        if !has_path(tree, number) {
+            return Some("a path");
+        }
+    }
+    None
 }
 
 /// The tree of stripes that nobody merged into.
@@ -146,13 +156,6 @@ fn other_without_pieces(
     Ok(other_part(&tree, 2, &[], &[]))
 }
 
-#[test]
-fn stripes_without_pieces_have_no_nodes(rt: HostRuntime) -> Result<(), Failed> {
-    let ccts = samples(rt.alloc())?;
-    assert_eq!(rt; other_without_pieces(rt.alloc(), &ccts)?, None);
-    Ok(())
-}
-
 /// The tree of stripes that have all pieces.
 fn tree_with_all_pieces(alloc: Global, ccts: &Ccts) -> Result<Tree, Fail<TooManyScopes>> {
     let expand = Innermost { alloc };
@@ -162,23 +165,19 @@ fn tree_with_all_pieces(alloc: Global, ccts: &Ccts) -> Result<Tree, Fail<TooMany
     Ok(joined(alloc, &plan, &expand, &set)?)
 }
 
-/// What of a tree is other than expected.
-fn other_than_expected(alloc: Global, tree: &Tree) -> Result<Option<&'static str>, Memory> {
-    let (nodes, counts) = expected(alloc)?;
-    Ok(other_part(tree, 2, &nodes, &counts))
-}
-
+/// What of that tree is other than the samples.
 fn other_with_all_pieces(
     alloc: Global,
     ccts: &Ccts,
 ) -> Result<Option<&'static str>, Fail<TooManyScopes>> {
     let tree = tree_with_all_pieces(alloc, ccts)?;
-    Ok(other_than_expected(alloc, &tree)?)
+    Ok(other_than_samples(&tree))
 }
 
 #[test]
-fn stripes_with_all_pieces_have_the_tree_of_the_samples(rt: HostRuntime) -> Result<(), Failed> {
+fn trees_of_stripes_without_pieces_and_with_all(rt: HostRuntime) -> Result<(), Failed> {
     let ccts = samples(rt.alloc())?;
+    assert_eq!(rt; other_without_pieces(rt.alloc(), &ccts)?, None);
     assert_eq!(rt; other_with_all_pieces(rt.alloc(), &ccts)?, None);
     stripes_hold_their_pieces();
     stripes_hold_the_samples();

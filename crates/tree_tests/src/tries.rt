@@ -188,12 +188,6 @@ pub(crate) fn trie_of(alloc: Global, rows: &[Row]) -> Result<Trie, Memory>
     Ok(trie)
 }
 
-#[test]
-fn no_nodes_in_an_empty_trie(rt: HostRuntime) {
-    let trie = Trie::empty(rt.alloc());
-    assert_eq!(rt; (trie.len(), trie.ends().len()), (0, 0));
-}
-
 /// The trie of both pieces.
 fn trie_of_both(alloc: Global) -> Result<Trie, Memory> {
     let mut trie = trie_of(alloc, &FIRST)?;
@@ -202,10 +196,10 @@ fn trie_of_both(alloc: Global) -> Result<Trie, Memory> {
     Ok(trie)
 }
 
-/// How many nodes the trie of the first piece has.
-fn nodes_of_the_first(alloc: Global) -> Result<u32, Memory> {
-    let trie = trie_of(alloc, &FIRST)?;
-    Ok(trie.len())
+/// How many nodes and ends the trie of some rows has.
+fn sizes(alloc: Global, rows: &[Row]) -> Result<(u32, usize), Memory> {
+    let trie = trie_of(alloc, rows)?;
+    Ok((trie.len(), trie.ends().len()))
 }
 
 /// The first node and column with another count.
@@ -240,7 +234,8 @@ fn other_in_both(alloc: Global) -> Result<(Option<&'static str>, Option<(u32, u3
 
 #[test]
 fn pieces_are_merged(rt: HostRuntime) -> Result<(), Fail> {
-    assert_eq!(rt; nodes_of_the_first(rt.alloc())?, 4);
+    let sizes = (sizes(rt.alloc(), &[])?, sizes(rt.alloc(), &FIRST)?);
+    assert_eq!(rt; sizes, ((0, 0), (4, 3)));
     assert_eq!(rt; other_in_both(rt.alloc())?, (None, None));
     trie_nodes_are_prefixes();
     trie_is_of_samples();

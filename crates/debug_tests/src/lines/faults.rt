@@ -33,9 +33,24 @@ const FILE_FORMAT: &[u8] = &[
 
 const FILES: &[u8] = b"\x01a.c\0\0";
 
-/// A name, and the fields of a section whose first table is at fault.
-pub(super) static LENGTH_FAULTS: [(&str, &[&[u8]]); 4] = [
-    ("unit_length not whole", &[&[1, 2, 3]]),
+/// A name, what a section is made of whose first table is at fault, `.debug_str` after S, and the offset of the fault.
+pub(super) type Row = (&'static str, &'static [&'static [u8]], &'static [u8], u32);
+
+/// How the pieces of a row make `.debug_line`.
+pub(super) enum MadeFrom {
+    /// They are its bytes.
+    Bytes,
+    /// A change of a byte of the header without fault, as `0=6` says.
+    Change,
+    /// The fields of a header after line_range.
+    Fields,
+    /// A program after a header without fault. The offset is that in the program.
+    Opcodes,
+}
+
+/// Fields of a section.
+pub(super) static LENGTH_FAULTS: [Row; 4] = [
+    ("unit_length not whole", &[&[1, 2, 3]], b"", 0),
     (
         "unit_length of 64-bit DWARF",
         &[
@@ -53,6 +68,8 @@ pub(super) static LENGTH_FAULTS: [(&str, &[&[u8]]); 4] = [
             &[DW_LNS_advance_pc, 4],
             &[0, 1, DW_LNE_end_sequence],
         ],
+        b"",
+        0,
     ),
     (
         "unit_length past the section",
@@ -71,26 +88,29 @@ pub(super) static LENGTH_FAULTS: [(&str, &[&[u8]]); 4] = [
             &[DW_LNS_advance_pc, 4],
             &[0, 1],
         ],
+        b"",
+        0,
     ),
-    ("version not whole", &[&[1, 0, 0, 0], &[5]]),
+    ("version not whole", &[&[1, 0, 0, 0], &[5]], b"", 0),
 ];
 
-/// A name, and the change of a byte of the header that is at fault.
-pub(super) static HEADER_CHANGES: [(&str, &str); 6] = [
-    ("version 6", "0=6"),
-    ("version 1", "0=1"),
-    ("address_size 8", "2=8"),
-    ("segment_selector_size 1", "3=1"),
-    ("line_range 0", "12=0"),
-    ("header_length past the table", "4=200"),
+/// Changes of the header.
+pub(super) static HEADER_CHANGES: [Row; 6] = [
+    ("version 6", &[b"0=6"], b"", 0),
+    ("version 1", &[b"0=1"], b"", 0),
+    ("address_size 8", &[b"2=8"], b"", 0),
+    ("segment_selector_size 1", &[b"3=1"], b"", 0),
+    ("line_range 0", &[b"12=0"], b"", 0),
+    ("header_length past the table", &[b"4=200"], b"", 0),
 ];
 
-/// A name, fields after line_range of a header that is at fault, and `.debug_str` after S.
-pub(super) static HEADER_FAULTS: [(&str, &[&[u8]], &[u8]); 10] = [
+/// Fields after line_range.
+pub(super) static HEADER_FAULTS: [Row; 10] = [
     (
         "opcode_base 0",
         &[&[0], DIRECTORY_FORMAT, DIRECTORIES, FILE_FORMAT, FILES],
         b"",
+        0,
     ),
     (
         "standard_opcode_lengths past the table",
@@ -102,6 +122,7 @@ pub(super) static HEADER_FAULTS: [(&str, &[&[u8]], &[u8]); 10] = [
             FILES,
         ],
         b"",
+        0,
     ),
     (
         "a form that is none",
@@ -113,6 +134,7 @@ pub(super) static HEADER_FAULTS: [(&str, &[&[u8]], &[u8]); 10] = [
             FILES,
         ],
         b"",
+        0,
     ),
     (
         "DW_FORM_indirect",
@@ -124,6 +146,7 @@ pub(super) static HEADER_FAULTS: [(&str, &[&[u8]], &[u8]); 10] = [
             FILES,
         ],
         b"",
+        0,
     ),
     (
         "DW_FORM_implicit_const",
@@ -135,6 +158,7 @@ pub(super) static HEADER_FAULTS: [(&str, &[&[u8]], &[u8]); 10] = [
             &[0],
         ],
         b"",
+        0,
     ),
     (
         "DW_LNCT_path by a number",
@@ -146,6 +170,7 @@ pub(super) static HEADER_FAULTS: [(&str, &[&[u8]], &[u8]); 10] = [
             FILES,
         ],
         b"",
+        0,
     ),
     (
         "DW_LNCT_path outside its section",
@@ -157,6 +182,7 @@ pub(super) static HEADER_FAULTS: [(&str, &[&[u8]], &[u8]); 10] = [
             FILES,
         ],
         b"S6100",
+        0,
     ),
     (
         "DW_LNCT_path without end in its section",
@@ -168,6 +194,7 @@ pub(super) static HEADER_FAULTS: [(&str, &[&[u8]], &[u8]); 10] = [
             FILES,
         ],
         b"",
+        0,
     ),
     (
         "DW_LNCT_directory_index by a text",
@@ -180,19 +207,22 @@ pub(super) static HEADER_FAULTS: [(&str, &[&[u8]], &[u8]); 10] = [
             b"\x01a\0b\0",
         ],
         b"",
+        0,
     ),
     (
         "more directories than bytes",
         &[OPCODE_BASE, &[0], &[127], FILE_FORMAT, FILES],
         b"",
+        0,
     ),
 ];
 
-/// A name, a program, and the offset in it of the opcode that is at fault.
-pub(super) static PROGRAM_FAULTS: [(&str, &[&[u8]], u32); 7] = [
+/// Programs.
+pub(super) static PROGRAM_FAULTS: [Row; 7] = [
     (
         "opcode without operand",
         &[&[DW_LNS_copy], &[DW_LNS_advance_pc]],
+        b"",
         1,
     ),
     (
@@ -210,31 +240,37 @@ pub(super) static PROGRAM_FAULTS: [(&str, &[&[u8]], u32); 7] = [
             0xff,
             2,
         ]],
+        b"",
         0,
     ),
     (
         "extended size 0",
         &[&[DW_LNS_copy], &[0, 0], &[DW_LNS_copy]],
+        b"",
         1,
     ),
     (
         "extended size past the table",
         &[&[0, 5, DW_LNE_set_address, 0, 0, 1]],
+        b"",
         0,
     ),
     (
         "DW_LNE_set_address with an address of three bytes",
         &[&[0, 4, DW_LNE_set_address, 0, 0, 1]],
+        b"",
         0,
     ),
     (
         "a file of 33 bits",
         &[&[DW_LNS_set_file, 0x80, 0x80, 0x80, 0x80, 0x10]],
+        b"",
         0,
     ),
     (
         "half of a fixed advance",
         &[&[DW_LNS_fixed_advance_pc, 1]],
+        b"",
         0,
     ),
 ];
