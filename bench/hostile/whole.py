@@ -102,8 +102,18 @@ def merged_collisions(_):
 
 def long_trace(_):
     """A trace of all samples a hart may have, each of another path of three frames."""
-    data, count = row_files.ROW_FILES["straight"], MOST_SAMPLES
-    body = b"".join(struct.pack("<5I", 0, 3, n, *COLLIDING) for n in range(count))
+    return traced([(n, *COLLIDING) for n in range(MOST_SAMPLES)])
+
+
+def trace_collisions(_):
+    """A trace whose samples are each of another path of four frames, which have one hash where the hasher is known."""
+    return traced([(BASE + 4 * n, n, *COLLIDING) for n in range(MOST_SAMPLES)])
+
+
+def traced(paths):
+    """The trace of these paths of a straight program, with a sample of each."""
+    data, count = row_files.ROW_FILES["straight"], len(paths)
+    body = b"".join(struct.pack(f"<{2 + len(path)}I", 0, len(path), *path) for path in paths)
     head = b"HPCTRAC1" + words(len(data), BASE, 1, 1) + struct.pack("<QI", count, count)
     kept = head + body + struct.pack(f"<{count + 1}I", count, *range(count))
     return Load(["timeline", "program", "trace", "64", "512"], {"program": data, "trace": kept})
@@ -279,8 +289,9 @@ KINDS = {
     "collisions": (collisions, FOUR_FRAMES), "too_many_collisions": (too_many_collisions, MOST_SAMPLES),
     "no_collisions": (no_collisions, FOUR_FRAMES), "short_paths": (short_paths, 0),
     "long_paths": (long_paths, 0), "one_caller": (one_caller, 0), "merged_collisions": (merged_collisions, 0),
-    "long_trace": (long_trace, 0), "entries": (entries, 60_000_000), "codes": (codes, 300_000),
-    "empty_values": (empty_values, 100_000), "names": (names, 30_000_000), "tables": (tables, 3_000),
+    "long_trace": (long_trace, 0), "trace_collisions": (trace_collisions, 0),
+    "entries": (entries, 60_000_000), "codes": (codes, 300_000), "empty_values": (empty_values, 100_000),
+    "names": (names, 30_000_000), "tables": (tables, 3_000),
     "overlapping_tables": (overlapping_tables, 3_000), "repeated_codes": (repeated_codes, 3_000),
     "long_numbers": (long_numbers, 100_000), "deep_entries": (deep_entries, 60_000_000),
     "subprograms": (subprograms, 6_000_000), "nested_ranges": (nested_ranges, 4_000_000),

@@ -1,14 +1,17 @@
 //! The program `hpc`: it hands its words, the current folder's files and its streams to the top call.
 //!
 //! It promises nothing of its own: what it prints and stores is what the top call's contract says, as
-//! far as folders and streams do what they say. Below stand `hpc_top` and `prof_devices`.
+//! far as folders and streams do what they say. The key that it hands over with them changes no answer. Below stand
+//! `hpc_top`, `prof_devices` and `hash_key`.
 #![tactic(auto)]
 
+use hash_key::HashKey;
 use hpc_top::{Status, hpc_main, out_of_memory};
 use prof_bytes::{Memory, Text};
 use prof_devices::{ErrSink, FolderShelf, OpenGate, OutSink};
 use std::env::FillError;
 use std::process::ExitCode;
+use std::random::RandomSource;
 use std::rt::{Env, Files};
 use std::thread::Threads;
 
@@ -32,7 +35,9 @@ fn words_of<R: Env + AllocGlobal>(rt: &R) -> Result<Vec<Text>, Memory> {
     Ok(words)
 }
 
-fn run<R: Threads + Sync + AllocGlobal + Files + Print + Eprint + Env>(rt: &R) -> Status {
+fn run<R: Threads + Sync + AllocGlobal + Files + Print + Eprint + Env + RandomSource>(
+    rt: &R,
+) -> Status {
     let mut err = ErrSink::of(rt);
     let words = match words_of(rt) {
         Ok(words) => words,
@@ -42,6 +47,7 @@ fn run<R: Threads + Sync + AllocGlobal + Files + Print + Eprint + Env>(rt: &R) -
     let mut out = OutSink::of(rt);
     hpc_main(
         rt,
+        HashKey::random(rt),
         words.as_slice(),
         &mut shelf,
         &mut out,

@@ -11,12 +11,14 @@ use crate::prepare::prepare;
 use crate::status::{Stop, status_of};
 use crate::steps::deliver;
 use command_line::{Request, Status, read_words, tell};
+use hash_key::HashKey;
 use prof_bytes::Text;
 use prof_devices::{Gate, Shelf, Sink};
 use std::thread::Threads;
 
 fn carry_out<R: Threads + Sync + AllocGlobal, F: Shelf, O: Sink, G: Gate>(
     rt: &R,
+    key: HashKey,
     request: &Request<'_>,
     shelf: &mut F,
     out: &mut O,
@@ -26,12 +28,13 @@ fn carry_out<R: Threads + Sync + AllocGlobal, F: Shelf, O: Sink, G: Gate>(
     ensures { Outcome (view_request request.now)
         (call_of (F.shown shelf.old) (F.shown shelf.new) (O.shown out.old) (O.shown out.new)) (answer_of result) }
 {
-    let made = prepare(rt, request, shelf, gate)?;
+    let made = prepare(rt, key, request, shelf, gate)?;
     deliver(shelf, out, request.stores, &made)
 }
 
 fn answer<R: Threads + Sync + AllocGlobal, F: Shelf, O: Sink, G: Gate>(
     rt: &R,
+    key: HashKey,
     words: &[Text],
     shelf: &mut F,
     out: &mut O,
@@ -42,7 +45,7 @@ fn answer<R: Threads + Sync + AllocGlobal, F: Shelf, O: Sink, G: Gate>(
     ensures untouched { IsNone (request_of words.now) → (shelf.new ≡ shelf.old) × (out.new ≡ out.old) }
 {
     match read_words(rt.alloc(), words) {
-        Ok(Some(request)) => status_of(carry_out(rt, &request, shelf, out, gate)),
+        Ok(Some(request)) => status_of(carry_out(rt, key, &request, shelf, out, gate)),
         Ok(None) => Status::Usage,
         Err(memory) => Status::Memory(memory),
     }
@@ -50,6 +53,7 @@ fn answer<R: Threads + Sync + AllocGlobal, F: Shelf, O: Sink, G: Gate>(
 
 fn respond<R: Threads + Sync + AllocGlobal, F: Shelf, O: Sink, E: Sink, G: Gate>(
     rt: &R,
+    key: HashKey,
     words: &[Text],
     shelf: &mut F,
     out: &mut O,
@@ -61,15 +65,16 @@ fn respond<R: Threads + Sync + AllocGlobal, F: Shelf, O: Sink, E: Sink, G: Gate>
     ensures line { Says (E.shown err.old) (E.shown err.new) result }
     ensures untouched { IsNone (request_of words.now) → (shelf.new ≡ shelf.old) × (out.new ≡ out.old) }
 {
-    let status = answer(rt, words, shelf, out, gate);
+    let status = answer(rt, key, words, shelf, out, gate);
     tell(rt.alloc(), status, err)
 }
 
 /// All that the program does: what its words ask for, over the files of `shelf`, with the report on
 /// `out` and a line on `err` for every answer but `Done`. Each worker of a merge passes `gate` before it offers a piece
-/// first.
+/// first. What files and programs choose is hashed with `key`; the answer is the same with each.
 pub fn hpc_main<R: Threads + Sync + AllocGlobal, F: Shelf, O: Sink, E: Sink, G: Gate>(
     rt: &R,
+    key: HashKey,
     words: &[Text],
     shelf: &mut F,
     out: &mut O,
@@ -87,5 +92,5 @@ pub fn hpc_main<R: Threads + Sync + AllocGlobal, F: Shelf, O: Sink, E: Sink, G: 
     ensures follows { Follows (request_of words.now)
         (call_of (F.shown shelf.old) (F.shown shelf.new) (O.shown out.old) (O.shown out.new)) result }
 {
-    respond(rt, words, shelf, out, err, gate)
+    respond(rt, key, words, shelf, out, err, gate)
 }

@@ -12,6 +12,7 @@ pub mod prof;
 pub mod profile;
 
 use command_line::{Command, InputFault, Product};
+use hash_key::HashKey;
 use prof_bytes::{Fail, Text};
 use prof_devices::Gate;
 use program_run::commands::{run, structure, timeline, trace};
@@ -21,6 +22,7 @@ use std::thread::Threads;
 /// What a command makes of the contents of its files, which come in the order in which it reads them.
 pub fn make<R: Threads + Sync + AllocGlobal, G: Gate>(
     rt: &R,
+    key: HashKey,
     command: &Command,
     texts: &[Text],
     gate: &G,
@@ -31,21 +33,27 @@ pub fn make<R: Threads + Sync + AllocGlobal, G: Gate>(
 {
     match command {
         Command::Profile { periods, workers } => {
-            profile::make(rt, periods.items(), *workers, texts, gate)
+            profile::make(rt, key, periods.items(), *workers, texts, gate)
         }
-        Command::Run { periods } => run::make(rt.alloc(), periods.items(), texts),
-        Command::Prof { workers } => prof::make(rt, *workers, texts, gate),
+        Command::Run { periods } => run::make(rt.alloc(), key, periods.items(), texts),
+        Command::Prof { workers } => prof::make(rt, key, *workers, texts, gate),
         Command::Struct => structure::make(rt.alloc(), texts),
         Command::View { table, event } => view::make(rt.alloc(), *table, *event, texts),
-        Command::Drill { number, workers } => drill::make(rt, *number, *workers, texts, gate),
-        Command::Merge { workers, .. } => merge::make(rt, *workers, texts, gate),
+        Command::Drill { number, workers } => drill::make(rt, key, *number, *workers, texts, gate),
+        Command::Merge { workers, .. } => merge::make(rt, key, *workers, texts, gate),
         Command::Live {
             periods,
             workers,
             epoch,
-        } => live::make(rt, periods.items(), *workers, *epoch, texts, gate),
-        Command::Trace { period } => trace::make(rt.alloc(), *period, texts),
-        Command::Timeline { depth, cells } => timeline::make(rt.alloc(), *depth, *cells, texts),
+        } => live::make(rt, key, periods.items(), *workers, *epoch, texts, gate),
+        Command::Trace { period } => trace::make(rt.alloc(), key, *period, texts),
+        Command::Timeline { depth, cells } => timeline::make(
+            rt.alloc(),
+            key,
+            *depth,
+            *cells,
+            texts,
+        ),
         Command::Stats { kind, event } => stats::make(rt.alloc(), *kind, *event, texts),
     }
 }

@@ -22,6 +22,7 @@ use command_line::{InputFault, Product};
 use dwarf_inline::Structure;
 use dwarf_line::LineTable;
 use elf_image::Image;
+use hash_key::HashKey;
 use live_merge::{Live, LiveFault, Merger, run_live, trees_hold_the_samples};
 use measure_file::measurements_count_samples;
 use prof_bytes::{Fail, Memory};
@@ -83,6 +84,7 @@ fn live_of<'a>(
 fn merge_live<'a, R: Threads + Sync, M: Merger>(
     rt: &R,
     alloc: Global,
+    key: HashKey,
     merger: &M,
     harts: u32,
     events: &[EventPeriod],
@@ -110,6 +112,7 @@ fn merge_live<'a, R: Threads + Sync, M: Merger>(
     let answer = run_live(
         rt,
         alloc,
+        key,
         &mut samples,
         unwinder,
         expander,
@@ -144,6 +147,7 @@ fn run_while_merging<'a, R: Threads + Sync, M: Merger>(
     merge_live(
         rt,
         alloc,
+        job.key,
         merger,
         harts,
         job.periods,

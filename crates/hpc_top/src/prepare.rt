@@ -6,12 +6,14 @@ use crate::commands::make;
 use crate::status::Stop;
 use crate::steps::fetch_all;
 use command_line::{Product, Request};
+use hash_key::HashKey;
 use prof_devices::{Gate, Shelf};
 use std::thread::Threads;
 
 /// What a command makes of its files, or why it stops.
 pub fn prepare<R: Threads + Sync + AllocGlobal, F: Shelf, G: Gate>(
     rt: &R,
+    key: HashKey,
     request: &Request<'_>,
     shelf: &mut F,
     gate: &G,
@@ -20,5 +22,5 @@ pub fn prepare<R: Threads + Sync + AllocGlobal, F: Shelf, G: Gate>(
     ensures { Prepares (view_request request.now) (F.shown shelf.old) (F.shown shelf.new) result }
 {
     let texts = fetch_all(rt.alloc(), shelf, request.reads.items())?;
-    Ok(make(rt, &request.command, texts.items(), gate)?)
+    Ok(make(rt, key, &request.command, texts.items(), gate)?)
 }

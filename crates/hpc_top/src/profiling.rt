@@ -110,7 +110,15 @@ fn profile_program<'a, R: Threads + Sync, C: Crews>(
         (record { structure = structure.now; lines = lines.now; image = image.now }) schedule job.now.input.now
         job.now.periods.now) }
 {
-    let counted = count_run(alloc, image, table, schedule, job.input, job.periods)?;
+    let counted = count_run(
+        alloc,
+        job.key,
+        image,
+        table,
+        schedule,
+        job.input,
+        job.periods,
+    )?;
     merge_scopes(rt, alloc, job, crews, image, lines, structure, counted)
 }
 

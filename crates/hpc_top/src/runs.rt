@@ -12,6 +12,7 @@ ghost use Rattle.hpc_top.specs.commands.Merge.{measurements_from, of_one_program
 use crate::commands::prof::is_of_program;
 use command_line::{InputFault, MergeFault, as_input};
 use elf_image::Image;
+use hash_key::HashKey;
 use measure_file::{EventHead, read_any};
 use prof_bytes::{Fail, Memory, Text};
 use run_report::all_samples;
@@ -163,15 +164,19 @@ fn append_run(all: &mut Ccts, run: Ccts) -> Result<(), Fail<InputFault>>
 }
 
 /// The counted paths of all runs, the columns of each after those of the runs before it, unless there are too many
-/// frames. The tables of each run are moved, and no path is copied.
-pub fn joined(alloc: Global, runs: Vec<(EventHead, Ccts)>) -> Result<Ccts, Fail<InputFault>>
+/// frames. The tables of each run are moved, and no path is copied. The scopes of a plan of them are hashed with a key.
+pub fn joined(
+    alloc: Global,
+    key: HashKey,
+    runs: Vec<(EventHead, Ccts)>,
+) -> Result<Ccts, Fail<InputFault>>
     requires few_runs { length runs.items ≤ most_runs }
     requires measured { All (λ run. IsEventMeasurable run.0 run.1) runs.items }
     requires few { samples_in (all_tables runs.items) ≤ most_samples }
     ensures { Gives (λ ccts. ccts) result (within_frames (all_tables runs.items)) }
 {
     let mut left = runs;
-    let mut all = Ccts::start(alloc, 0)?;
+    let mut all = Ccts::keyed(alloc, key, 0)?;
     while !left.is_empty() {
         let ccts = take_first(&mut left);
         append_run(&mut all, ccts)?;

@@ -77,7 +77,7 @@ pub fn next_epoch<U: Unwind>(
     ensures columns { length all.new ≡ length all.old }
 {
     samples_are_counted();
-    let mut ccts = Ccts::start(alloc, all.columns())?;
+    let mut ccts = Ccts::keyed(alloc, all.key(), all.columns())?;
     for taken in 0..epoch {
         match next_sample(samples, unwinder) {
             Ok(Some(sample)) => {

@@ -13,6 +13,7 @@ use crate::epoch::{Epoch, next_epoch};
 use crate::fault::LiveFault;
 use crate::merger::Merger;
 use crate::trees::Trees;
+use hash_key::HashKey;
 use prof_bytes::{Fail, Memory};
 use sample_clock::Samples;
 use scope_types::{Expand, Unwind};
@@ -150,11 +151,12 @@ fn whole<R: Threads + Sync, E: Expand + Sync, M: Merger>(
 
 /// The tree of a run's samples, merged while the run goes on: an epoch is the part of it that gives the next `epoch`
 /// samples, and the last one is what remains. While the machine runs one epoch, the samples of the one before are
-/// merged. The answer is the same for every length of an epoch. After a refusal the run stands where it was met, and
+/// merged. The answer is the same for every length of an epoch, and every key. After a refusal the run stands where it was met, and
 /// after want of memory where the samples given have left it.
 pub fn run_live<R: Threads + Sync, U: Unwind + Sync, E: Expand + Sync, M: Merger>(
     rt: &R,
     alloc: Global,
+    key: HashKey,
     samples: &mut Samples<'_>,
     unwinder: &U,
     expand: &E,
@@ -174,7 +176,7 @@ pub fn run_live<R: Threads + Sync, U: Unwind + Sync, E: Expand + Sync, M: Merger
     ensures stands { StandsAfter (U.path_of unwinder.now) (harts * events) result samples.old samples.new }
 {
     samples_are_counted();
-    let mut all = Ccts::start(alloc, harts * events)?;
+    let mut all = Ccts::keyed(alloc, key, harts * events)?;
     let mut trees = Trees::new(alloc);
     let mut last = next_epoch(alloc, &mut all, samples, unwinder, events, epoch)?;
     let mut count = last.samples;

@@ -11,6 +11,7 @@ ghost use Rattle.live_merge.specs.Live.{coming};
 
 use crate::guests::{Refused, Trouble, guest, image_of, schedule};
 use elf_image::Image;
+use hash_key::HashKey;
 use live_merge::{GateWorkers, LiveFault, run_live};
 use prof_bytes::{Fail, Memory};
 use prof_devices::Gate;
@@ -212,7 +213,10 @@ fn merge<R: Threads + Sync>(
     let unwinder = Waiting { alloc, meeting };
     let expand = Same { alloc };
     let merger = GateWorkers::of(meeting, 2);
-    match run_live(rt, alloc, samples, &unwinder, &expand, &merger, 1, 1, EPOCH) {
+    let key = HashKey::fixed();
+    match run_live(
+        rt, alloc, key, samples, &unwinder, &expand, &merger, 1, 1, EPOCH,
+    ) {
         Ok(live) => Ok(Ok((live.tree.nodes().len(), live.samples))),
         Err(Fail::Fault(fault)) => Ok(Err(fault)),
         Err(Fail::Memory(memory)) => Err(memory),

@@ -3,7 +3,7 @@
 //!
 //! It promises that a trie stands for the entries that were merged into it: its nodes are the nonempty
 //! prefixes of their paths, each once, parents before children, and its counts are the sums of theirs.
-//! Below lie `tree_types`, `scope_types`, `prof_bytes` and `indexmap`.
+//! Below lie `tree_types`, `scope_types`, `hash_key`, `prof_bytes` and `indexmap`.
 #![tactic(auto)]
 
 mod laws;

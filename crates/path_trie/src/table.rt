@@ -10,6 +10,7 @@ ghost use Rattle.path_trie.specs.Trie.{IsIndex, path_at, with_node};
 ghost use Rattle.path_trie.specs.private.Linked.{Linked, Extends, IsAbsent, Key, linked_node, node_with};
 ghost use Rattle.path_trie.specs.private.Linked.{IsKept, next_index, last_one, branch_at, with_branch};
 
+use hash_key::HashKey;
 use indexmap::IndexMap;
 use prof_bytes::Memory;
 use scope_types::Scope;
@@ -21,21 +22,21 @@ use tree_types::{NO_PARENT, Node};
 #[derive(Drop)]
 pub struct NodeTable {
     pub nodes: Vec<Node>,
-    pub branches: IndexMap<(u32, Scope), u32>,
+    pub branches: IndexMap<(u32, Scope), u32, HashKey>,
     /// The indices of the nodes of the path that was put in last, the outermost first.
     pub kept: Vec<u32>,
 }
 
 impl NodeTable {
     /// No nodes.
-    pub fn new(alloc: Global) -> NodeTable
+    pub fn new(alloc: Global, key: HashKey) -> NodeTable
         ensures nodes { result.nodes.items ≡ [] }
         ensures branches { result.branches.entries ≡ [] }
         ensures kept { result.kept.items ≡ [] }
     {
         NodeTable {
             nodes: Vec::new(alloc),
-            branches: IndexMap::new(alloc),
+            branches: IndexMap::with_hasher(alloc, key),
             kept: Vec::new(alloc),
         }
     }
@@ -186,7 +187,12 @@ impl NodeTable {
 }
 
 /// Puts a node among the branches, unless it lies right after its parent.
-fn put_branch(branches: &mut IndexMap<(u32, Scope), u32>, parent: u32, scope: Scope, index: u32)
+fn put_branch(
+    branches: &mut IndexMap<(u32, Scope), u32, HashKey>,
+    parent: u32,
+    scope: Scope,
+    index: u32,
+)
     requires { (next_index parent ≡ index → ⊥) → 0 < spare branches.old }
     ensures branches { (q : Key) → branch_at branches.new.entries q
         ≡ with_branch (next_index parent == index) (parent, scope) index (branch_at branches.old.entries q) q }

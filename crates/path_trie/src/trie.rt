@@ -10,6 +10,7 @@ ghost use Rattle.path_trie.specs.Trie.{count_of, samples_of, entry_scopes, Stand
 ghost use Rattle.path_trie.specs.private.Linked.{IsKept, IsTrie, entries_at, ends_at};
 
 use crate::table::NodeTable;
+use hash_key::HashKey;
 use prof_bytes::Memory;
 use scope_types::{Entry, Piece};
 use std::alloc::Global;
@@ -81,14 +82,14 @@ fn put_entries(table: &mut NodeTable, ends: &mut Vec<PathEnd>, entries: &[Entry]
 }
 
 impl Trie {
-    /// No entries, and no nodes. Takes no memory.
+    /// No entries, and no nodes, of which scopes will be hashed with a key. Takes no memory.
     #[tactic(auto, using(crate::proofs::Merging::no_nodes))]
-    pub fn empty(alloc: Global) -> Trie
+    pub fn empty(alloc: Global, key: HashKey) -> Trie
         ensures entries { result ≡ [] }
         ensures nodes { trie_nodes result ≡ [] }
     {
         Trie {
-            table: NodeTable::new(alloc),
+            table: NodeTable::new(alloc, key),
             ends: Vec::new(alloc),
         }
     }

@@ -2,6 +2,7 @@
 //! by hand from the formats. A path that is cut at 512 frames is tried with the built program alone
 //! (`.ci/checks`): before they are proved tests are interpreted, and its 1,025 nodes then take more than a minute.
 use crate::reports::NO_SAMPLES;
+use hash_key::HashKey;
 use hpc_top::{Job, Made, profile};
 use merge_crew::{Crews, WorkCrew};
 use prof_devices::OpenGate;
@@ -133,6 +134,7 @@ pub(crate) fn made<C: Crews>(
         schedule,
         periods: &periods,
         workers: 1,
+        key: HashKey::fixed(),
     };
     Ok(profile(rt, &job, crews).ok().ok_or("refused")?)
 }

@@ -1,4 +1,5 @@
 //! That the workers of each command that merges are at work at once.
+use hash_key::HashKey;
 use hpc_top::{Status, hpc_main};
 use prof_bytes::Text;
 use prof_devices::{Gate, SureShelf, SureSink};
@@ -86,7 +87,7 @@ fn is_done(
 ) -> bool {
     let mut out = SureSink::new(rt.alloc());
     let mut err = SureSink::new(rt.alloc());
-    let status = hpc_main(rt, words, shelf, &mut out, &mut err, gate);
+    let status = hpc_main(rt, HashKey::fixed(), words, shelf, &mut out, &mut err, gate);
     let is_said = match output {
         Some(text) => out.taken() == text.as_bytes(),
         None => true,

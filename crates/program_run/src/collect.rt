@@ -11,6 +11,7 @@ ghost use Rattle.program_run.specs.Collecting.{Collects, GivesNext, IsStart, raw
 
 use command_line::{InputFault, copied_events};
 use elf_image::Image;
+use hash_key::HashKey;
 use prof_bytes::{Fail, Memory};
 use rv_run::{Machine, Schedule};
 use sample_clock::{Sample, Samples};
@@ -77,6 +78,7 @@ pub fn next_sample<U: Unwind>(
 /// Runs the machine to its end, and counts its samples, which are of so many events, column by column.
 pub fn collect<U: Unwind>(
     alloc: Global,
+    key: HashKey,
     harts: u32,
     events: u32,
     samples: &mut Samples<'_>,
@@ -89,7 +91,7 @@ pub fn collect<U: Unwind>(
     ensures { Collects (U.path_of unwinder.now) (harts * events) result samples.old samples.new }
 {
     samples_are_counted();
-    let mut ccts = Ccts::start(alloc, harts * events)?;
+    let mut ccts = Ccts::keyed(alloc, key, harts * events)?;
     loop {
         match next_sample(samples, unwinder) {
             Ok(Some(sample)) => {

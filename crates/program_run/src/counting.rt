@@ -15,6 +15,7 @@ use cfi_table::FrameTable;
 use cfi_unwind::Unwinder;
 use command_line::InputFault;
 use elf_image::Image;
+use hash_key::HashKey;
 use prof_bytes::{Fail, Memory, Text};
 use run_report::{run_and_events, run_lines};
 use rv_run::Schedule;
@@ -34,6 +35,7 @@ pub struct CountedRun<'a> {
 /// Counts the samples that are to come, of these events, unless there are too many samples or frames.
 fn count_samples<'a>(
     alloc: Global,
+    key: HashKey,
     harts: u32,
     events: &[EventPeriod],
     mut samples: Samples<'a>,
@@ -50,7 +52,14 @@ fn count_samples<'a>(
 {
     samples_are_counted();
     samples_are_of_instructions();
-    let ccts = collect(alloc, harts, events.len() as u32, &mut samples, unwinder)?;
+    let ccts = collect(
+        alloc,
+        key,
+        harts,
+        events.len() as u32,
+        &mut samples,
+        unwinder,
+    )?;
     Ok(CountedRun {
         harts,
         ccts,
@@ -58,9 +67,11 @@ fn count_samples<'a>(
     })
 }
 
-/// Counts the samples of a program's run under a schedule, of these events, or gives its refusal.
+/// Counts the samples of a program's run under a schedule, of these events, or gives its refusal. Raw paths are hashed
+/// with a key.
 pub fn count_run<'a>(
     alloc: Global,
+    key: HashKey,
     image: &Image<'a>,
     table: &FrameTable,
     schedule: Schedule,
@@ -73,7 +84,7 @@ pub fn count_run<'a>(
     let harts = schedule.harts();
     let unwinder = Unwinder::of(alloc, table, image);
     let samples = start_samples(alloc, image, schedule, input, events)?;
-    count_samples(alloc, harts, events, samples, &unwinder)
+    count_samples(alloc, key, harts, events, samples, &unwinder)
 }
 
 /// The lines on a run.

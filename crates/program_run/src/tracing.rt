@@ -21,6 +21,7 @@ use cfi_table::FrameTable;
 use cfi_unwind::Unwinder;
 use command_line::InputFault;
 use elf_image::Image;
+use hash_key::HashKey;
 use prof_bytes::{Fail, Memory, Text};
 use run_report::retired_lines;
 use rv_run::{Machine, Schedule};
@@ -104,6 +105,7 @@ fn finish_harts(trace: &mut Trace, machine: &Machine<'_>)
 /// The trace of the samples that are to come, of retired instructions with this period.
 fn traced<'a>(
     alloc: Global,
+    key: HashKey,
     image: &Image<'_>,
     period: u32,
     harts: u32,
@@ -124,7 +126,7 @@ fn traced<'a>(
     samples_are_counted();
     samples_are_of_instructions();
     retired_samples_are_counted();
-    let mut trace = Trace::start(alloc, image.length(), image.entry(), period, harts)?;
+    let mut trace = Trace::start(alloc, key, image.length(), image.entry(), period, harts)?;
     trace_samples(&mut trace, &mut samples, unwinder)?;
     finish_harts(&mut trace, samples.machine());
     Ok(TracedRun { trace, samples })
@@ -134,6 +136,7 @@ fn traced<'a>(
 /// refusal.
 pub fn trace_run<'a>(
     alloc: Global,
+    key: HashKey,
     image: &Image<'a>,
     table: &FrameTable,
     schedule: Schedule,
@@ -148,7 +151,7 @@ pub fn trace_run<'a>(
     let unwinder = Unwinder::of(alloc, table, image);
     let events = [EventPeriod::retired(period)];
     let samples = start_samples(alloc, image, schedule, input, &events)?;
-    traced(alloc, image, period, harts, samples, &unwinder)
+    traced(alloc, key, image, period, harts, samples, &unwinder)
 }
 
 /// How many samples each hart has.

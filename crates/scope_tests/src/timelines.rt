@@ -6,6 +6,7 @@ use dwarf_info::Info;
 use dwarf_inline::Structure;
 use dwarf_line::LineTable;
 use elf_image::Image;
+use hash_key::HashKey;
 use prof_bytes::Fail as ReadFail;
 use scope_expand::Expander;
 use scope_find::Finder;
@@ -99,7 +100,7 @@ fn has_timeline(
 
 /// The same of the case's file.
 fn is_timeline(alloc: Global, finder: &Finder<'_>, case: &Case) -> Result<bool, Unread> {
-    match read_trace(alloc, case.file) {
+    match read_trace(alloc, HashKey::fixed(), case.file) {
         Ok(trace) => has_timeline(alloc, &trace, finder, case),
         Err(ReadFail::Memory(memory)) => Err(ReadFail::Memory(memory)),
         Err(ReadFail::Fault(_)) => Err(UNREADABLE),

@@ -19,6 +19,7 @@ use crate::table::{Pass, PassSeat, Stripes};
 use crate::view::{ExpandedPlan, PassView};
 use atomic_table::{Closed, Table};
 use ghost_value::{Determines, GhostValue};
+use hash_key::HashKey;
 use path_trie::Trie;
 use prof_bytes::Memory;
 use scope_types::limits::STRIPES;
@@ -64,13 +65,13 @@ impl Model for StripeSet {
     ghost invariant = { λ s. IsSet s.closer.value.view.plan s.stripes.items };
 }
 
-fn empty_stripes(alloc: Global, chunks: u32) -> Result<Vec<Stripe>, Memory>
+fn empty_stripes(alloc: Global, key: HashKey, chunks: u32) -> Result<Vec<Stripe>, Memory>
     ensures { IfOk result (λ v. v.items ≡ replicate stripe_count empty_stripe) }
 {
     // room: `STRIPES`, the stripes
     let mut all = Vec::with_capacity(alloc, STRIPES)?;
     for _ in 0..STRIPES {
-        all.push(Stripe::empty(alloc, chunks)?)?;
+        all.push(Stripe::empty(alloc, key, chunks)?)?;
     }
     Ok(all)
 }
@@ -78,6 +79,7 @@ fn empty_stripes(alloc: Global, chunks: u32) -> Result<Vec<Stripe>, Memory>
 /// The table of an expanded plan, and the first pass's seat at it.
 fn open(
     alloc: Global,
+    key: HashKey,
     chunks: u32,
     plan: &GhostValue<ExpandedPlan>,
 ) -> Result<
@@ -92,7 +94,7 @@ fn open(
         × (t.1.me ≡ (first_view plan.now.value, []))
         × (t.0.shared.key ≡ plan.now)) }
 {
-    let all = empty_stripes(alloc, chunks)?;
+    let all = empty_stripes(alloc, key, chunks)?;
     match Table::new(alloc, &[0; WORDS], all, plan) {
         Ok(made) => Ok(made),
         // out of memory: the table's two allocations are all that can fail, and its refusal
@@ -131,7 +133,7 @@ impl Stripes {
         // room: `STRIPES`, the stripes of the closed table, so that `close` can't fail
         let spare = Vec::with_capacity(alloc, STRIPES)?;
         let chunks = plan.chunks();
-        let (table, seat) = open(alloc, chunks, &key)?;
+        let (table, seat) = open(alloc, plan.key(), chunks, &key)?;
         let stripes = Stripes {
             table,
             chunks,

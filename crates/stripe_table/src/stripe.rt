@@ -6,6 +6,7 @@ ghost use Rattle.stripe_table.specs.private.Adding.{HasRoom, TakesIn};
 ghost use Rattle.stripe_table.specs.Views.{occurrences};
 ghost use Rattle.stripe_table.specs.private.Adding.{AddedAs};
 
+use hash_key::HashKey;
 use path_trie::Trie;
 use prof_bytes::Memory;
 use scope_types::Piece;
@@ -47,14 +48,14 @@ pub(crate) enum Addition {
 
 impl Stripe {
     /// No pieces, of a plan with a given number of chunks.
-    pub(crate) fn empty(alloc: Global, chunks: u32) -> Result<Stripe, Memory>
+    pub(crate) fn empty(alloc: Global, key: HashKey, chunks: u32) -> Result<Stripe, Memory>
         ensures { IfOk result (λ stripe. stripe ≡ empty_stripe) }
     {
         Ok(Stripe {
             names: Vec::new(alloc),
             marks: no_marks(alloc, chunks)?,
             index: 0,
-            trie: Trie::empty(alloc),
+            trie: Trie::empty(alloc, key),
         })
     }
 

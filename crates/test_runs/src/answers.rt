@@ -1,4 +1,5 @@
 //! What a command answers and puts over files in memory.
+use hash_key::HashKey;
 use hpc_top::{Status, hpc_main};
 use prof_bytes::Text;
 use prof_devices::{MemShelf, OpenGate, Shelf, Sink, SureShelf, SureSink};
@@ -15,7 +16,15 @@ pub fn answer<F: Shelf, O: Sink, E: Sink>(
     err: &mut E,
 ) -> Result<Status, Fail> {
     let words = words_of(rt.alloc(), line)?;
-    Ok(hpc_main(rt, words.as_slice(), shelf, out, err, &OpenGate))
+    Ok(hpc_main(
+        rt,
+        HashKey::fixed(),
+        words.as_slice(),
+        shelf,
+        out,
+        err,
+        &OpenGate,
+    ))
 }
 
 /// The answer of a command, and what it put.

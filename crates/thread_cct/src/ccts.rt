@@ -9,6 +9,7 @@ ghost use Rattle.thread_cct.specs.Listing.{HasNoRepeat, frames_of_all, samples_o
 
 use crate::column::Column;
 use crate::path_list::PathList;
+use hash_key::HashKey;
 use prof_bytes::{Fail, Memory};
 use scope_types::limits::MOST_FRAMES_IN_ALL;
 use scope_types::{Counted, Frame, RawPath};
@@ -34,6 +35,7 @@ impl From<TooManyFrames> for Fail<TooManyFrames> {
 #[derive(Drop)]
 pub struct Ccts {
     alloc: Global,
+    key: HashKey,
     tables: Vec<Column>,
     frames: u64,
 }
@@ -88,30 +90,63 @@ fn put_path(tables: &mut Vec<Column>, column: usize, raw: RawPath) -> Result<(),
 }
 
 /// Gives a column without paths those of a list.
-fn put_list(alloc: Global, tables: &mut Vec<Column>, column: usize, list: PathList)
+fn put_list(alloc: Global, key: HashKey, tables: &mut Vec<Column>, column: usize, list: PathList)
     requires { column < length tables.old.items }
     ensures { tables.new.items ≡ slice_set tables.old.items column list }
 {
-    tables[column] = Column::of(alloc, list);
+    tables[column] = Column::of(alloc, key, list);
 }
 
 impl Ccts {
-    /// No samples, for a given number of columns.
-    #[tactic(auto, using(crate::proofs::Tables::starting_steps, crate::proofs::Putting::all_empty))]
+    /// No samples, for a given number of columns, with the fixed key: for tests, and for columns that get lists.
     pub fn start(alloc: Global, columns: u32) -> Result<Ccts, Memory>
+        ensures distinct { IfOk result (λ ccts. ccts ≡ distinct columns []) }
+        ensures empty { IfOk result (λ ccts. ccts ≡ replicate columns []) }
+        ensures samples { IfOk result (λ ccts. samples_in ccts ≡ 0) }
+    {
+        Ccts::keyed(alloc, HashKey::fixed(), columns)
+    }
+
+    /// The same, with a key: the paths that are added are hashed with it, and so are the scopes of a plan of them.
+    #[tactic(auto, using(crate::proofs::Tables::starting_steps, crate::proofs::Putting::all_empty))]
+    pub fn keyed(alloc: Global, key: HashKey, columns: u32) -> Result<Ccts, Memory>
         ensures distinct { IfOk result (λ ccts. ccts ≡ distinct columns []) }
         ensures empty { IfOk result (λ ccts. ccts ≡ replicate columns []) }
         ensures samples { IfOk result (λ ccts. samples_in ccts ≡ 0) }
     {
         let mut tables = Vec::new(alloc);
         for _ in 0..columns {
-            tables.push(Column::new(alloc))?;
+            tables.push(Column::new(alloc, key))?;
         }
         Ok(Ccts {
             alloc,
+            key,
             tables,
             frames: 0,
         })
+    }
+
+    /// The same counted paths, with another key for the scopes of a plan of them.
+    pub fn with_key(self, key: HashKey) -> Ccts
+        ensures { result ≡ self }
+    {
+        let Ccts {
+            alloc,
+            tables,
+            frames,
+            ..
+        } = self;
+        Ccts {
+            alloc,
+            key,
+            tables,
+            frames,
+        }
+    }
+
+    /// The key with which they are hashed.
+    pub fn key(&self) -> HashKey {
+        self.key
     }
 
     /// How many columns there are.
@@ -170,7 +205,13 @@ impl Ccts {
         ensures frames { frames_in self.new ≡ frames_in self.old + frames_of_all list }
     {
         self.frames += list.frames();
-        put_list(self.alloc, &mut self.tables, column as usize, list);
+        put_list(
+            self.alloc,
+            self.key,
+            &mut self.tables,
+            column as usize,
+            list,
+        );
     }
 
     /// The other's columns follow the own ones, with their paths and counts. `TooManyFrames` comes exactly where the

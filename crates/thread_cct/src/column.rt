@@ -7,6 +7,7 @@ ghost use Rattle.thread_cct.specs.Listing.{samples_of};
 
 use crate::path_list::PathList;
 use crate::table::PathTable;
+use hash_key::HashKey;
 use prof_bytes::Memory;
 use scope_types::{Counted, Frame, RawPath};
 use std::alloc::Global;
@@ -41,23 +42,23 @@ fn copied(frames: Vec<Frame>, raw: &RawPath) -> Result<RawPath, Memory>
 
 impl Column {
     /// No paths.
-    pub fn new(alloc: Global) -> Column
+    pub fn new(alloc: Global, key: HashKey) -> Column
         ensures { result ≡ [] }
     {
         Column {
             list: PathList::new(alloc),
-            table: PathTable::new(alloc),
+            table: PathTable::new(alloc, key),
         }
     }
 
     /// The paths of a list.
     #[tactic(auto, using(crate::proofs::Columns::column_steps))]
-    pub fn of(alloc: Global, list: PathList) -> Column
+    pub fn of(alloc: Global, key: HashKey, list: PathList) -> Column
         ensures { result ≡ list }
     {
         Column {
             list,
-            table: PathTable::new(alloc),
+            table: PathTable::new(alloc, key),
         }
     }
 

@@ -4,7 +4,8 @@
 //! It promises that of the samples that were added each column has its distinct raw paths in order of first
 //! sample, each with its count; that the columns that are appended are those of the other table; and that a plan
 //! cuts these into chunks of 64, and each chunk, expanded to call paths, into the pieces of sixteen stripes, so that
-//! the pieces have each path once. Below lie `scope_types`, `prof_bytes` and `indexmap`.
+//! the pieces have each path once. Below lie `scope_types`, `hash_key`, `prof_bytes` and
+//! `indexmap`.
 //!
 //! A loop that adds the samples of a run one by one keeps, of the samples so far, that `Ccts` is `distinct` of
 //! them and counts as many: `start` gives it of no samples, and `add` (clauses `all` and `samples`) of one more,

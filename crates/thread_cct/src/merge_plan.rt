@@ -12,6 +12,7 @@ ghost use Rattle.std.specs.List.Sorted.{IsNonDecreasing};
 
 use crate::ccts::Ccts;
 use crate::dealt::{Pieces, deal, empty_lists};
+use hash_key::HashKey;
 use prof_bytes::{Fail, Memory};
 use scope_types::limits::MOST_SCOPES_IN_ALL;
 use scope_types::{Counted, Entry, Expand, Frame};
@@ -113,6 +114,11 @@ impl<'a> Plan<'a> {
             firsts,
             paths,
         })
+    }
+
+    /// The key with which its scopes are hashed.
+    pub fn key(&self) -> HashKey {
+        self.ccts.key()
     }
 
     /// How many chunks there are.

@@ -1,10 +1,11 @@
-//! The distinct raw paths of one column. A table by hashing finds them.
+//! The distinct raw paths of one column. A table by hashing with a key finds them.
 ghost use Rattle.std.specs.Prelude.{◌≡◌, ◌<◌, ◌-◌, ◌^◌, [], true, false, if◌then◌else◌, length, slice_get};
 ghost use Rattle.std.specs.Prelude.{sum_by, Some, OnOk, OnErr, MatchOption};
 ghost use Rattle.thread_cct.specs.Adding.{count_one, has_path};
 ghost use Rattle.thread_cct.specs.private.Fields.{IsPathAt};
 
 use crate::recent::{RecentPlaces, is_same_raw};
+use hash_key::HashKey;
 use indexmap::IndexMap;
 use prof_bytes::Memory;
 use scope_types::RawPath;
@@ -16,7 +17,7 @@ use std::marker::Model;
 /// again, nothing is hashed.
 #[derive(Drop)]
 pub struct PathTable {
-    counts: IndexMap<RawPath, u32>,
+    counts: IndexMap<RawPath, u32, HashKey>,
     recent: RecentPlaces,
 }
 
@@ -32,11 +33,11 @@ impl Model for PathTable {
 
 impl PathTable {
     /// No paths.
-    pub fn new(alloc: Global) -> PathTable
+    pub fn new(alloc: Global, key: HashKey) -> PathTable
         ensures { result ≡ [] }
     {
         PathTable {
-            counts: IndexMap::new(alloc),
+            counts: IndexMap::with_hasher(alloc, key),
             recent: RecentPlaces::new(),
         }
     }

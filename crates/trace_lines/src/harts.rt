@@ -9,6 +9,7 @@ ghost use Rattle.trace_lines.specs.Traces.{retired_by, sampled, sampled_once, sa
 
 use crate::paths::HartPaths;
 use crate::trace::TraceFull;
+use hash_key::HashKey;
 use prof_bytes::{Fail, Memory};
 use scope_types::RawPath;
 use scope_types::limits::MOST_FRAMES_IN_ALL;
@@ -78,8 +79,8 @@ impl Harts {
         }
     }
 
-    /// A given number of harts without samples.
-    pub fn idle(alloc: Global, count: u32) -> Result<Harts, Memory>
+    /// A given number of harts without samples, whose paths will be hashed with a key.
+    pub fn idle(alloc: Global, key: HashKey, count: u32) -> Result<Harts, Memory>
         requires { count ≤ most_harts }
         ensures idle { IfOk result (λ harts. harts ≡ idle_harts count) }
         ensures count { IfOk result (λ harts. length harts ≡ count) }
@@ -87,7 +88,7 @@ impl Harts {
     {
         let mut harts = Vec::new(alloc);
         for _ in 0..count {
-            harts.push(HartPaths::new(alloc))?;
+            harts.push(HartPaths::new(alloc, key))?;
         }
         Ok(Harts {
             harts,

@@ -3,8 +3,8 @@
 //! It promises that a trace is just the samples that were added, that what is written is byte for byte its spelling,
 //! that what is read is just what the bytes say, or the offset of their first fault, and that a timeline shows at each
 //! moment the procedure of the sample before it (HPCToolkit's manual, "Using HPCToolkit's Trace Viewer"). Below are
-//! `measure_file`, for how raw paths are spelled, `scope_find`, `tree_types`, `scope_types`, `prof_bytes` and
-//! `indexmap`.
+//! `measure_file`, for how raw paths are spelled, `scope_find`, `tree_types`, `scope_types`, `hash_key`, `prof_bytes`
+//! and `indexmap`.
 #![tactic(auto)]
 
 mod cell;

@@ -7,6 +7,7 @@ ghost use Rattle.trace_lines.specs.Spelling.{place_among};
 ghost use Rattle.trace_lines.specs.Reading.{path_at};
 ghost use Rattle.trace_lines.specs.private.Paths.{ArePathsOf, samples_at};
 
+use hash_key::HashKey;
 use indexmap::IndexSet;
 use prof_bytes::Memory;
 use scope_types::RawPath;
@@ -19,7 +20,7 @@ use thread_cct::{RecentPlaces, is_same_raw};
 #[derive(Drop)]
 pub(crate) struct HartPaths {
     retired: u64,
-    paths: IndexSet<RawPath>,
+    paths: IndexSet<RawPath, HashKey>,
     places: Vec<u32>,
     recent: RecentPlaces,
 }
@@ -39,7 +40,11 @@ impl Model for HartPaths {
 }
 
 /// Puts a raw path that is new, and its sample. Where memory runs out nothing is changed.
-fn put_new(paths: &mut IndexSet<RawPath>, places: &mut Vec<u32>, raw: RawPath) -> Result<(), Memory>
+fn put_new(
+    paths: &mut IndexSet<RawPath, HashKey>,
+    places: &mut Vec<u32>,
+    raw: RawPath,
+) -> Result<(), Memory>
     requires paths { ArePathsOf paths.old.keys places.old.items }
     requires new { has_raw raw (samples_at paths.old.keys places.old.items) ≡ false }
     requires few { length places.old.items < most_samples }
@@ -60,7 +65,7 @@ fn put_new(paths: &mut IndexSet<RawPath>, places: &mut Vec<u32>, raw: RawPath) -
 /// Whether a raw path is at a place.
 #[inline(always)]
 #[tactic(auto, using(crate::proofs::Kept::place_steps))]
-fn is_at(paths: &IndexSet<RawPath>, place: usize, raw: &RawPath) -> bool
+fn is_at(paths: &IndexSet<RawPath, HashKey>, place: usize, raw: &RawPath) -> bool
     ensures { result ≡ true → slice_get paths.now.keys place ≡ Some raw.now }
 {
     match paths.get_index(place) {
@@ -72,7 +77,7 @@ fn is_at(paths: &IndexSet<RawPath>, place: usize, raw: &RawPath) -> bool
 /// The place of a raw path, if it is there. It is sought by hashing where it isn't at `recent`.
 #[inline(always)]
 #[tactic(auto, using(crate::proofs::Kept::place_steps))]
-fn find_place(paths: &IndexSet<RawPath>, recent: usize, raw: &RawPath) -> Option<u32>
+fn find_place(paths: &IndexSet<RawPath, HashKey>, recent: usize, raw: &RawPath) -> Option<u32>
     requires { length paths.now.keys ≤ most_samples }
     ensures { MatchOption result (has_raw raw.now paths.now.keys ≡ false)
         (λ place. slice_get paths.now.keys place ≡ Some raw.now) }
@@ -85,20 +90,20 @@ fn find_place(paths: &IndexSet<RawPath>, recent: usize, raw: &RawPath) -> Option
 }
 
 impl HartPaths {
-    /// No samples.
-    pub fn new(alloc: Global) -> HartPaths
+    /// No samples. Paths will be hashed with a key.
+    pub fn new(alloc: Global, key: HashKey) -> HartPaths
         ensures { result ≡ idle_hart }
     {
         HartPaths {
             retired: 0,
-            paths: IndexSet::new(alloc),
+            paths: IndexSet::with_hasher(alloc, key),
             places: Vec::new(alloc),
             recent: RecentPlaces::new(),
         }
     }
 
     /// A hart that retired so many instructions and has these paths, with the places of its samples.
-    pub fn of(retired: u64, paths: IndexSet<RawPath>, places: Vec<u32>) -> HartPaths
+    pub fn of(retired: u64, paths: IndexSet<RawPath, HashKey>, places: Vec<u32>) -> HartPaths
         requires { ArePathsOf paths.keys places.items }
         ensures { result ≡ record { retired = retired; samples = samples_at paths.keys places.items } }
     {

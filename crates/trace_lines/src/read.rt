@@ -22,6 +22,7 @@ use crate::fields::{
 use crate::harts::Harts;
 use crate::paths::HartPaths;
 use crate::trace::Trace;
+use hash_key::HashKey;
 use indexmap::IndexSet;
 use prof_bytes::{Cursor, Fail};
 use scope_types::{End, RawPath};
@@ -31,7 +32,7 @@ use std::alloc::Global;
 /// have.
 #[derive(Drop)]
 struct PathsRead {
-    paths: IndexSet<RawPath>,
+    paths: IndexSet<RawPath, HashKey>,
     frames: u32,
 }
 
@@ -44,7 +45,7 @@ pub(crate) struct PlacesRead {
 
 /// Puts a path that was read, and whose first pc is at this offset.
 fn put_path(
-    paths: &mut IndexSet<RawPath>,
+    paths: &mut IndexSet<RawPath, HashKey>,
     raw: RawPath,
     offset: usize,
 ) -> Result<(), Fail<TraceFault>>
@@ -67,7 +68,7 @@ fn put_path(
 fn read_path(
     alloc: Global,
     cursor: &mut Cursor<'_>,
-    paths: &mut IndexSet<RawPath>,
+    paths: &mut IndexSet<RawPath, HashKey>,
     before: u32,
     frames: u32,
 ) -> Result<u32, Fail<TraceFault>>
@@ -94,6 +95,7 @@ fn read_path(
 #[tactic(auto, unfolding(crate::specs::Reading::traced_paths_from))]
 fn read_paths(
     alloc: Global,
+    key: HashKey,
     cursor: &mut Cursor<'_>,
     before: u32,
 ) -> Result<PathsRead, Fail<TraceFault>>
@@ -105,7 +107,7 @@ fn read_paths(
     ensures count { IfOk result (λ read. length read.paths.keys < 2 ^ 32) }
     ensures distinct { IfOk result (λ read. AreDistinctRaws read.paths.keys) }
 {
-    let mut paths = IndexSet::new(alloc);
+    let mut paths = IndexSet::with_hasher(alloc, key);
     let mut frames = before;
     let count = read_word(cursor)?;
     for _ in 0..count {
@@ -126,7 +128,7 @@ fn used_with(used: u32, place: u32) -> u32
 fn read_places(
     alloc: Global,
     cursor: &mut Cursor<'_>,
-    paths: &IndexSet<RawPath>,
+    paths: &IndexSet<RawPath, HashKey>,
     count: u32,
 ) -> Result<PlacesRead, Fail<TraceFault>>
     requires paths { length paths.now.keys < 2 ^ 32 }
@@ -160,7 +162,7 @@ pub(crate) struct CountRule {
 fn read_samples(
     alloc: Global,
     cursor: &mut Cursor<'_>,
-    paths: &IndexSet<RawPath>,
+    paths: &IndexSet<RawPath, HashKey>,
     rule: CountRule,
 ) -> Result<Vec<u32>, Fail<TraceFault>>
     requires paths { length paths.now.keys < 2 ^ 32 }
@@ -185,6 +187,7 @@ fn read_samples(
 #[tactic(auto, unfolding(crate::specs::Reading::hart_from))]
 fn read_hart(
     alloc: Global,
+    key: HashKey,
     cursor: &mut Cursor<'_>,
     period: u32,
     harts: &mut Harts,
@@ -196,7 +199,7 @@ fn read_hart(
 {
     let retired = read_long(cursor)?;
     let before = harts.frames();
-    let read = read_paths(alloc, cursor, before)?;
+    let read = read_paths(alloc, key, cursor, before)?;
     let PathsRead { paths, frames } = read;
     let rule = CountRule {
         period,
@@ -212,6 +215,7 @@ fn read_hart(
 #[tactic(auto, unfolding(crate::specs::Reading::harts_from))]
 fn read_harts(
     alloc: Global,
+    key: HashKey,
     cursor: &mut Cursor<'_>,
     period: u32,
     count: u32,
@@ -223,7 +227,7 @@ fn read_harts(
 {
     let mut harts = Harts::empty(alloc);
     for _ in 0..count {
-        read_hart(alloc, cursor, period, &mut harts)?;
+        read_hart(alloc, key, cursor, period, &mut harts)?;
     }
     if cursor.left() > 0 {
         return Err(Fail::Fault(fault_at(cursor.place())));
@@ -241,9 +245,10 @@ fn after_magic(bytes: &[u8]) -> Result<Cursor<'_>, TraceFault>
     Ok(Cursor::at(bytes, 8))
 }
 
-/// The trace that the bytes spell, or the first fault. Each of its harts is finished.
+/// The trace that the bytes spell, or the first fault. Each of its harts is finished. Raw paths are hashed with a key, so
+/// that no file makes them collide.
 #[tactic(auto, unfolding(crate::specs::Reading::trace_in))]
-pub fn read_trace(alloc: Global, bytes: &[u8]) -> Result<Trace, Fail<TraceFault>>
+pub fn read_trace(alloc: Global, key: HashKey, bytes: &[u8]) -> Result<Trace, Fail<TraceFault>>
     ensures exact { Gives (λ trace. trace) result (trace_in bytes.now) }
     ensures storable { IfOk result IsStorable }
     ensures finished { IfOk result AreFinished }
@@ -253,6 +258,6 @@ pub fn read_trace(alloc: Global, bytes: &[u8]) -> Result<Trace, Fail<TraceFault>
     let entry = read_word(&mut cursor)?;
     let period = read_period(&mut cursor)?;
     let count = read_count_of_harts(&mut cursor)?;
-    let harts = read_harts(alloc, &mut cursor, period, count)?;
+    let harts = read_harts(alloc, key, &mut cursor, period, count)?;
     Ok(Trace::of(length, entry, period, harts))
 }

@@ -7,6 +7,7 @@ ghost use Rattle.trace_lines.specs.Traces.{sampled_once, samples_traced, with_ha
 
 use crate::harts::Harts;
 use crate::paths::HartPaths;
+use hash_key::HashKey;
 use prof_bytes::{Fail, Memory};
 use scope_types::RawPath;
 use std::alloc::Global;
@@ -59,9 +60,10 @@ impl Model for Trace {
 
 impl Trace {
     /// A trace without samples, of a program whose file has `file_length` bytes and whose entry is `entry`, with a
-    /// sample for each `period` instructions that a hart retires.
+    /// sample for each `period` instructions that a hart retires. Its raw paths are hashed with a key.
     pub fn start(
         alloc: Global,
+        key: HashKey,
         file_length: u32,
         entry: u32,
         period: u32,
@@ -79,7 +81,7 @@ impl Trace {
             length: file_length,
             entry,
             period,
-            harts: Harts::idle(alloc, harts)?,
+            harts: Harts::idle(alloc, key, harts)?,
         })
     }
 

@@ -5,6 +5,7 @@ use crate::measurements::{
     FOUR_SAMPLES, HART_ROWS, REFUSALS, TWO_HARTS, four_samples_are_written, is_written_again,
 };
 use crate::traces::{AGAIN, REFUSALS_AGAIN, TRACE, TRACE_REFUSALS, trace_is_written_again};
+use hash_key::HashKey;
 use measure_file::{MeasureFault, read_any, read_measure};
 use prof_bytes::{Fail, Memory};
 use std::alloc::Global;
@@ -43,7 +44,7 @@ fn fault_of_events(alloc: Global, bytes: &[u8]) -> Result<u64, Memory> {
 }
 
 fn fault_of_trace(alloc: Global, bytes: &[u8]) -> Result<u64, Memory> {
-    match read_trace(alloc, bytes) {
+    match read_trace(alloc, HashKey::fixed(), bytes) {
         Ok(_) => Ok(WHOLE),
         Err(Fail::Fault(TraceFault { offset })) => Ok(offset),
         Err(Fail::Memory(memory)) => Err(memory),

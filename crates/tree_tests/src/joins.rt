@@ -1,4 +1,5 @@
 use crate::tries::{F, G, IN_F, NEXT_IN_F, ROOT, Row, SECOND, trie_of};
+use hash_key::HashKey;
 use path_trie::Trie;
 use prof_bytes::Memory;
 use scope_types::{RootKind, Scope};
@@ -182,7 +183,7 @@ fn other_in_rows(alloc: Global) -> Result<Option<&'static str>, Memory> {
 
 /// The tree of an empty trie.
 fn tree_of_nothing(alloc: Global) -> Result<Tree, Memory> {
-    join_trie(alloc, &Trie::empty(alloc), 0)
+    join_trie(alloc, &Trie::empty(alloc, HashKey::fixed()), 0)
 }
 
 fn other_in_nothing(alloc: Global) -> Result<Option<&'static str>, Memory> {

@@ -1,5 +1,6 @@
 //! Trace files: two small ones, and where changes of them have their first fault; and traces that grow by samples.
 use crate::files::Row;
+use hash_key::HashKey;
 use prof_bytes::{Fail, Memory};
 use scope_types::{End, Frame, RawPath};
 use std::alloc::Global;
@@ -53,7 +54,7 @@ pub(crate) static REFUSALS_AGAIN: [Row; 4] = [
 
 /// Whether a file is read, and what was read is written as the file's bytes again.
 pub(crate) fn trace_is_written_again(alloc: Global, file: &[u8]) -> Result<bool, Memory> {
-    match read_trace(alloc, file) {
+    match read_trace(alloc, HashKey::fixed(), file) {
         Ok(trace) => Ok(write_trace(alloc, &trace)?.bytes() == file),
         Err(Fail::Fault(_)) => Ok(false),
         Err(Fail::Memory(memory)) => Err(memory),
@@ -69,7 +70,7 @@ fn raw_at(alloc: Global, pc: u32) -> Result<RawPath, Memory> {
 
 /// A trace of two harts with three samples of the second, the first and the last of one path.
 fn grown(alloc: Global) -> Result<Trace, Fail<TraceFull>> {
-    let mut trace = Trace::start(alloc, 168, 0x1_0000, 5, 2)?;
+    let mut trace = Trace::start(alloc, HashKey::fixed(), 168, 0x1_0000, 5, 2)?;
     trace.add(1, &raw_at(alloc, 0x1_0010)?)?;
     trace.add(1, &raw_at(alloc, 0x1_0024)?)?;
     trace.add(1, &raw_at(alloc, 0x1_0010)?)?;

@@ -1,6 +1,7 @@
 ghost use Rattle.std.specs.Prelude.{◌<◌, ◌≤◌, length, All, IfOk};
 ghost use Rattle.path_trie.specs.Trie.{samples_of, entry_scopes, trie_nodes};
 
+use hash_key::HashKey;
 use path_trie::{PathEnd, Trie, parts_add_up, trie_is_of_samples, trie_nodes_are_prefixes};
 use prof_bytes::{Listed, Memory};
 use scope_types::{Entry, LineId, Piece, ProcId, RootKind, Scope, ScopePath};
@@ -183,7 +184,7 @@ pub(crate) fn trie_of(alloc: Global, rows: &[Row]) -> Result<Trie, Memory>
     ensures columns { IfOk result (λ t. All (λ e. 0 < e.count → e.column < 3) t) }
 {
     let piece = piece(alloc, &rows[..rows.len().min(100)])?;
-    let mut trie = Trie::empty(alloc);
+    let mut trie = Trie::empty(alloc, HashKey::fixed());
     trie.merge(&piece)?;
     Ok(trie)
 }

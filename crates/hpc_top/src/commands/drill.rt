@@ -17,6 +17,7 @@ use crate::commands::profile::Job;
 use crate::profiling::{ProfiledRun, profile_run};
 use command_line::{InputFault, Product, nothing, text_alone};
 use guest_gen::guest;
+use hash_key::HashKey;
 use merge_crew::{Crews, WorkCrew};
 use prof_bytes::{Fail, Memory, Text};
 use prof_db::{event_profiles_are_writable, write_events};
@@ -78,6 +79,7 @@ fn drill_job<R: Threads + Sync, C: Crews>(
 #[tactic(auto, unfolding(crate::specs::commands::Drill::drill_product))]
 fn drill_guest<R: Threads + Sync + AllocGlobal, C: Crews>(
     rt: &R,
+    key: HashKey,
     number: u32,
     workers: u32,
     crews: &C,
@@ -94,6 +96,7 @@ fn drill_guest<R: Threads + Sync + AllocGlobal, C: Crews>(
         schedule: files.schedule.bytes(),
         periods: &periods,
         workers,
+        key,
     };
     drill_job(rt, rt.alloc(), number, &job, crews)
 }
@@ -101,6 +104,7 @@ fn drill_guest<R: Threads + Sync + AllocGlobal, C: Crews>(
 /// What `drill` makes, which has no files.
 pub fn make<R: Threads + Sync + AllocGlobal, G: Gate>(
     rt: &R,
+    key: HashKey,
     number: u32,
     workers: u32,
     texts: &[Text],
@@ -112,5 +116,5 @@ pub fn make<R: Threads + Sync + AllocGlobal, G: Gate>(
     let [] = texts else {
         return Ok(nothing(rt.alloc()));
     };
-    drill_guest(rt, number, workers, &WorkCrew::of(gate))
+    drill_guest(rt, key, number, workers, &WorkCrew::of(gate))
 }

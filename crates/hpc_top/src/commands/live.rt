@@ -12,6 +12,7 @@ ghost use Rattle.command_line.specs.Kind.{AreWithin};
 use crate::commands::profile::Job;
 use crate::live_runs::live_product;
 use command_line::{InputFault, Product, nothing};
+use hash_key::HashKey;
 use live_merge::GateWorkers;
 use prof_bytes::{Fail, Text};
 use prof_devices::Gate;
@@ -21,6 +22,7 @@ use std::thread::Threads;
 /// What `live` makes of its files.
 pub fn make<R: Threads + Sync + AllocGlobal, G: Gate>(
     rt: &R,
+    key: HashKey,
     periods: &[EventPeriod],
     workers: u32,
     epoch: u32,
@@ -42,6 +44,7 @@ pub fn make<R: Threads + Sync + AllocGlobal, G: Gate>(
         schedule: schedule.bytes(),
         periods,
         workers,
+        key,
     };
     live_product(rt, rt.alloc(), &job, &GateWorkers::of(gate, workers), epoch)
 }

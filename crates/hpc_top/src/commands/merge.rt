@@ -16,6 +16,7 @@ use crate::runs::{
 };
 use command_line::{InputFault, Product, copied_events, nothing};
 use elf_image::Image;
+use hash_key::HashKey;
 use measure_file::EventHead;
 use merge_crew::{Crews, WorkCrew};
 use prof_bytes::{Fail, Text};
@@ -30,6 +31,7 @@ use thread_cct::Ccts;
 fn merge_same<R: Threads + Sync, C: Crews>(
     rt: &R,
     alloc: Global,
+    key: HashKey,
     image: &Image<'_>,
     runs: Vec<(EventHead, Ccts)>,
     workers: u32,
@@ -46,7 +48,7 @@ fn merge_same<R: Threads + Sync, C: Crews>(
     check_samples(&runs)?;
     let events = copied_events(alloc, first_events(&runs))?;
     let harts = harts_of(alloc, &runs)?;
-    let ccts = joined(alloc, runs)?;
+    let ccts = joined(alloc, key, runs)?;
     let merge = Merge {
         crews,
         workers,
@@ -60,6 +62,7 @@ fn merge_same<R: Threads + Sync, C: Crews>(
 fn merge_runs<R: Threads + Sync, C: Crews>(
     rt: &R,
     alloc: Global,
+    key: HashKey,
     image: &Image<'_>,
     runs: Vec<(EventHead, Ccts)>,
     workers: u32,
@@ -74,7 +77,7 @@ fn merge_runs<R: Threads + Sync, C: Crews>(
 {
     check_programs(image, &runs)?;
     check_events(&runs)?;
-    merge_same(rt, alloc, image, runs, workers, crews)
+    merge_same(rt, alloc, key, image, runs, workers, crews)
 }
 
 /// The database and the tables of measurements of a program, or the first refusal of their files.
@@ -82,6 +85,7 @@ fn merge_runs<R: Threads + Sync, C: Crews>(
 fn merge_measured<R: Threads + Sync, C: Crews>(
     rt: &R,
     alloc: Global,
+    key: HashKey,
     elf: &[u8],
     measured: &[Text],
     workers: u32,
@@ -96,12 +100,13 @@ fn merge_measured<R: Threads + Sync, C: Crews>(
 {
     let runs = read_runs(alloc, measured)?;
     let image = program_of(alloc, elf)?;
-    merge_runs(rt, alloc, &image, runs, workers, crews)
+    merge_runs(rt, alloc, key, &image, runs, workers, crews)
 }
 
 /// What `merge` makes of its files.
 pub fn make<R: Threads + Sync + AllocGlobal, G: Gate>(
     rt: &R,
+    key: HashKey,
     workers: u32,
     texts: &[Text],
     gate: &G,
@@ -117,6 +122,7 @@ pub fn make<R: Threads + Sync + AllocGlobal, G: Gate>(
     merge_measured(
         rt,
         rt.alloc(),
+        key,
         elf.bytes(),
         measured,
         workers,

@@ -12,6 +12,7 @@ ghost use Rattle.command_line.specs.Kind.{AreWithin};
 use crate::attribution::attribute_code;
 use command_line::{InputFault, Product, as_input, nothing};
 use elf_image::Image;
+use hash_key::HashKey;
 use measure_file::{EventHead, read_any};
 use merge_crew::{Crews, WorkCrew};
 use prof_bytes::{Fail, Text};
@@ -84,6 +85,7 @@ fn attribute_measured<R: Threads + Sync, C: Crews>(
 fn attribute<R: Threads + Sync, C: Crews>(
     rt: &R,
     alloc: Global,
+    key: HashKey,
     elf: &[u8],
     measurement: &[u8],
     workers: u32,
@@ -97,12 +99,14 @@ fn attribute<R: Threads + Sync, C: Crews>(
     let (head, ccts) = measured(alloc, measurement)?;
     let image = program_of(alloc, elf)?;
     check_program(&image, &head)?;
+    let ccts = ccts.with_key(key);
     attribute_measured(rt, alloc, &image, &head, ccts, workers, crews)
 }
 
 /// What `prof` makes of its files.
 pub fn make<R: Threads + Sync + AllocGlobal, G: Gate>(
     rt: &R,
+    key: HashKey,
     workers: u32,
     texts: &[Text],
     gate: &G,
@@ -118,6 +122,7 @@ pub fn make<R: Threads + Sync + AllocGlobal, G: Gate>(
     attribute(
         rt,
         rt.alloc(),
+        key,
         elf.bytes(),
         measurement.bytes(),
         workers,

@@ -18,6 +18,7 @@ ghost use Rattle.command_line.specs.Kind.{AreWithin};
 use crate::profiling::{ProfiledRun, profile_run};
 use crate::status::Made;
 use command_line::{InputFault, Product, nothing};
+use hash_key::HashKey;
 use merge_crew::{Crews, WorkCrew};
 use prof_bytes::{Fail, Memory, Text};
 use prof_devices::Gate;
@@ -31,7 +32,7 @@ use tree_types::{
 };
 
 /// A program, its input and schedule, the events that are sampled, ascending, each with its period of at least 1, and
-/// the number of workers that merge.
+/// the number of workers that merge; and the key with which raw paths and scopes are hashed.
 #[derive(Clone, Copy, Debug)]
 pub struct Job<'a> {
     pub elf: &'a [u8],
@@ -39,6 +40,7 @@ pub struct Job<'a> {
     pub schedule: &'a [u8],
     pub periods: &'a [EventPeriod],
     pub workers: u32,
+    pub key: HashKey,
 }
 
 /// The database and the report of a counted run and the content of its samples.
@@ -129,6 +131,7 @@ fn product_of(made: Made) -> Product
 /// What `profile` makes of its files.
 pub fn make<R: Threads + Sync + AllocGlobal, G: Gate>(
     rt: &R,
+    key: HashKey,
     periods: &[EventPeriod],
     workers: u32,
     texts: &[Text],
@@ -148,6 +151,7 @@ pub fn make<R: Threads + Sync + AllocGlobal, G: Gate>(
         schedule: schedule.bytes(),
         periods,
         workers,
+        key,
     };
     Ok(product_of(profile(rt, &job, &WorkCrew::of(gate))?))
 }

@@ -16,6 +16,7 @@ use crate::program::{frames_of, program_of, schedule_of};
 use cfi_table::FrameTable;
 use command_line::{InputFault, Product, copied_events, nothing};
 use elf_image::Image;
+use hash_key::HashKey;
 use measure_file::{EventHead, write_events};
 use prof_bytes::{Fail, Listed, Memory, Text};
 use rv_run::Schedule;
@@ -61,6 +62,7 @@ fn measurement_of(
 /// The measurement of a program whose call frame information was read, or the first refusal of its run.
 fn measure_program(
     alloc: Global,
+    key: HashKey,
     image: &Image<'_>,
     table: &FrameTable,
     schedule: Schedule,
@@ -71,7 +73,7 @@ fn measure_program(
     ensures { Gives (λ p. p) result
         (measurement_or image.now (measured image.now (descriptions table.now) schedule input.now events.now)) }
 {
-    let counted = count_run(alloc, image, table, schedule, input, events)?;
+    let counted = count_run(alloc, key, image, table, schedule, input, events)?;
     Ok(measurement_of(alloc, image, events, &counted)?)
 }
 
@@ -79,6 +81,7 @@ fn measure_program(
 #[tactic(auto, unfolding(crate::specs::commands::Run::run_product))]
 fn measure(
     alloc: Global,
+    key: HashKey,
     elf: &[u8],
     input: &[u8],
     schedule: &[u8],
@@ -92,12 +95,13 @@ fn measure(
     let schedule = schedule_of(alloc, schedule)?;
     let image = program_of(alloc, elf)?;
     let table = frames_of(alloc, &image)?;
-    measure_program(alloc, &image, &table, schedule, input, events)
+    measure_program(alloc, key, &image, &table, schedule, input, events)
 }
 
-/// What `run` makes of its files.
+/// What `run` makes of its files. Raw paths are hashed with a key.
 pub fn make(
     alloc: Global,
+    key: HashKey,
     events: &[EventPeriod],
     texts: &[Text],
 ) -> Result<Product, Fail<InputFault>>
@@ -108,5 +112,12 @@ pub fn make(
     let [elf, input, schedule] = texts else {
         return Ok(nothing(alloc));
     };
-    measure(alloc, elf.bytes(), input.bytes(), schedule.bytes(), events)
+    measure(
+        alloc,
+        key,
+        elf.bytes(),
+        input.bytes(),
+        schedule.bytes(),
+        events,
+    )
 }

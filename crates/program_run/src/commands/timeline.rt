@@ -15,6 +15,7 @@ use command_line::{InputFault, Product, as_input, nothing, text_alone};
 use dwarf_inline::Structure;
 use dwarf_line::LineTable;
 use elf_image::Image;
+use hash_key::HashKey;
 use prof_bytes::{Fail, Memory, Text};
 use scope_expand::Expander;
 use scope_find::Finder;
@@ -23,12 +24,12 @@ use trace_lines::{Trace, read_trace, timeline};
 
 /// The trace, or the first fault of its file.
 #[tactic(auto, using(command_line::proofs::Faults::input_steps))]
-fn trace_read(alloc: Global, bytes: &[u8]) -> Result<Trace, Fail<InputFault>>
+fn trace_read(alloc: Global, key: HashKey, bytes: &[u8]) -> Result<Trace, Fail<InputFault>>
     ensures exact { Gives (λ trace. trace) result (trace_read bytes.now) }
     ensures finished { IfOk result AreFinished }
 {
     as_input(
-        read_trace(alloc, bytes),
+        read_trace(alloc, key, bytes),
         |fault| InputFault::Trace {
             offset: fault.offset,
         },
@@ -87,6 +88,7 @@ fn show_code(
 #[tactic(auto, unfolding(crate::specs::commands::Timeline::timeline_product))]
 fn show(
     alloc: Global,
+    key: HashKey,
     elf: &[u8],
     trace: &[u8],
     depth: u32,
@@ -96,15 +98,16 @@ fn show(
     requires look { IsLook depth cells }
     ensures { Gives (λ p. p) result (timeline_product elf.now trace.now depth cells) }
 {
-    let trace = trace_read(alloc, trace)?;
+    let trace = trace_read(alloc, key, trace)?;
     let image = program_of(alloc, elf)?;
     check_program(&image, &trace)?;
     show_code(alloc, &image, &trace, depth, cells)
 }
 
-/// What `timeline` makes of its files.
+/// What `timeline` makes of its files. Raw paths are hashed with a key.
 pub fn make(
     alloc: Global,
+    key: HashKey,
     depth: u32,
     cells: u32,
     texts: &[Text],
@@ -116,5 +119,5 @@ pub fn make(
     let [elf, trace] = texts else {
         return Ok(nothing(alloc));
     };
-    show(alloc, elf.bytes(), trace.bytes(), depth, cells)
+    show(alloc, key, elf.bytes(), trace.bytes(), depth, cells)
 }

@@ -16,6 +16,7 @@ use crate::tracing::{TracedRun, lines_of, trace_run};
 use cfi_table::FrameTable;
 use command_line::{InputFault, Product, nothing};
 use elf_image::Image;
+use hash_key::HashKey;
 use prof_bytes::{Fail, Memory, Text};
 use rv_run::Schedule;
 use std::alloc::Global;
@@ -35,6 +36,7 @@ fn traced_of(alloc: Global, run: &TracedRun<'_>) -> Result<Product, Memory>
 /// The trace of a program whose call frame information was read, or the first refusal of its run.
 fn trace_program(
     alloc: Global,
+    key: HashKey,
     image: &Image<'_>,
     table: &FrameTable,
     schedule: Schedule,
@@ -45,7 +47,7 @@ fn trace_program(
     ensures { Gives (λ p. p) result (traced_or image.now period
         (measured image.now (descriptions table.now) schedule input.now (retired_every period))) }
 {
-    let run = trace_run(alloc, image, table, schedule, input, period)?;
+    let run = trace_run(alloc, key, image, table, schedule, input, period)?;
     Ok(traced_of(alloc, &run)?)
 }
 
@@ -53,6 +55,7 @@ fn trace_program(
 #[tactic(auto, unfolding(crate::specs::commands::Trace::trace_product))]
 fn trace(
     alloc: Global,
+    key: HashKey,
     elf: &[u8],
     input: &[u8],
     schedule: &[u8],
@@ -66,11 +69,16 @@ fn trace(
     let schedule = schedule_of(alloc, schedule)?;
     let image = program_of(alloc, elf)?;
     let table = frames_of(alloc, &image)?;
-    trace_program(alloc, &image, &table, schedule, input, period)
+    trace_program(alloc, key, &image, &table, schedule, input, period)
 }
 
-/// What `trace` makes of its files.
-pub fn make(alloc: Global, period: u32, texts: &[Text]) -> Result<Product, Fail<InputFault>>
+/// What `trace` makes of its files. Raw paths are hashed with a key.
+pub fn make(
+    alloc: Global,
+    key: HashKey,
+    period: u32,
+    texts: &[Text],
+) -> Result<Product, Fail<InputFault>>
     requires files { AreWithin texts.now (kinds.Program ∷ kinds.Input ∷ kinds.Schedule ∷ []) }
     requires period { 1 ≤ period }
     ensures { Gives (λ p. p) result (trace_makes period texts.now) }
@@ -78,5 +86,12 @@ pub fn make(alloc: Global, period: u32, texts: &[Text]) -> Result<Product, Fail<
     let [elf, input, schedule] = texts else {
         return Ok(nothing(alloc));
     };
-    trace(alloc, elf.bytes(), input.bytes(), schedule.bytes(), period)
+    trace(
+        alloc,
+        key,
+        elf.bytes(),
+        input.bytes(),
+        schedule.bytes(),
+        period,
+    )
 }

@@ -2,7 +2,7 @@ use Rattle.std.proofs.Common.{◌∷◌, [], length, All, ap, subst, sym, arith}
 use Rattle.std.proofs.lemmas.List.{length-append}
 use Rattle.std.proofs.lemmas.List.Elements.{All-push}
 use Rattle.thread_cct.proofs.Tables.{IsEmpty, Tables}
-use Rattle.thread_cct.proofs.ccts.Ccts.start.Goals as goal
+use Rattle.thread_cct.proofs.ccts.Ccts.keyed.Goals as goal
 
 pub loop-preserved : goal.loop-preserved
 loop-preserved c =
