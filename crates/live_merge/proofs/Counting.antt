@@ -19,7 +19,7 @@ use Rattle.live_merge.specs.Live.{IsMerged, few_scopes_of}
 use Rattle.live_merge.specs.Sum.{HasPaths}
 use Rattle.live_merge.specs.declared.fault.LiveFault.TheVariants.{TooManyScopes as TooMany}
 use Rattle.live_merge.specs.declared.trees.Trees.{Trees}
-use Rattle.live_merge.specs.private.Epochs.{AreMerged, AreParts, AreSmall, HaveTooManyScopes, Merges, counted_by}
+use Rattle.live_merge.specs.private.Epochs.{AreMerged, AreParts, AreSmall, GivesWhole, HaveTooManyScopes, Merges, counted_by}
 use Rattle.live_merge.proofs.Epochs.{IsOwn, Tables, is_above, tested, tested_err, tested_ok}
 use Rattle.live_merge.proofs.Grown.{CallPath, Laws}
 use Rattle.live_merge.proofs.Merging.{alike_below}
@@ -160,6 +160,17 @@ whole_many call_path columns tables done fault are many =
 
 pub whole_over : (call_path : CallPath) (columns : ℕ) (done : List ColumnRaw) → HaveTooManyScopes call_path columns done → few_scopes_of call_path columns done ≡ Err TooMany
 whole_over call_path columns done many = ap (λ (b : Bool). tested b TooMany done) (lt-ltb most_scopes_in_all (scopes_in call_path (distinct columns done)) many)
+
+-- the samples of the whole run, merged at once
+pub at_once : Laws → (call_path : CallPath) (all : Tables) (plan : Planned) (tree : CountedTree) → few_scopes call_path all ≡ Ok plan → IsMerged plan call_path tree
+    → (done : List ColumnRaw) → all ≡ distinct (length all) done → All (IsOwn (length all)) done → GivesWhole call_path (length all) done (Ok tree)
+at_once laws call_path all plan tree few merged done are own =
+    let is : IsMerged (plan_of all) call_path tree = subst (λ (p : Planned). IsMerged p call_path tree) (sym (plan_is call_path all plan few)) merged in
+    (whole_few call_path (length all) all done plan are few, tree_has laws call_path all tree is (length all) done own are)
+
+pub at_once_columns : Laws → (call_path : CallPath) (all : Tables) (plan : Planned) (tree : CountedTree) → few_scopes call_path all ≡ Ok plan → IsMerged plan call_path tree → tree.columns ≡ length all
+at_once_columns laws call_path all plan tree few merged =
+    tree_columns laws call_path all tree (subst (λ (p : Planned). IsMerged p call_path tree) (sym (plan_is call_path all plan few)) merged)
 
 -- what adding the epoch's tree gives
 pub added_all : {X E : Type 0} → Laws → (call_path : CallPath) (epoch : Tables) (plan : Planned) (tree : CountedTree) (old new : Trees) (r : Result X E) → plan_of epoch ≡ plan → IsMerged plan call_path tree → old.is_over ≡ false

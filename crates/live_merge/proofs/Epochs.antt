@@ -1,4 +1,4 @@
--- An epoch of a run, as its samples are counted.
+-- The samples of a run, as they are counted.
 use Rattle.std.proofs.Common.{◌≡◌, inl, ℕ, zero, suc, ◌+◌, ◌-◌, ◌<◌, ◌≤◌, Bool, true, false, cond, nat_lt, List, [], ◌∷◌, ◌++◌, length, map, take, All, Option, Some, None, Result, Ok, Err, refl, sym, ap, subst, ◌∙◌, arith, append-nil, append_assoc, take_all}
 use Rattle.std.proofs.lemmas.Bool.Decides.{nat_tests}
 use Rattle.std.proofs.lemmas.List.{length-append, length-map, map-append, take-append-le}
@@ -18,11 +18,10 @@ use Rattle.scope_types.specs.Distinct.{ColumnRaw, distinct, frames_in, samples_i
 use Rattle.scope_types.specs.Limits.{most_samples, most_frames_in_all}
 use Rattle.thread_cct.specs.declared.ccts.TooManyFrames.{TooManyFrames}
 use Rattle.thread_cct.specs.Adding.{few_frames, too_many}
-use Rattle.live_merge.specs.declared.epoch.Epoch.{Epoch}
 use Rattle.live_merge.specs.declared.fault.LiveFault.{LiveFault}
 use Rattle.live_merge.specs.declared.fault.LiveFault.TheVariants.{TooManySamples, TooManyFrames as TooMany}
 use Rattle.live_merge.specs.Live.{AtSamples, Gave, coming, few_frames_of, few_of, few_of_run, raw_of}
-use Rattle.live_merge.specs.private.Epochs.{AtFramesAfter, GivesEpoch, GivesNext, GivesNone, GivesOne, IsEpoch, StandsInEpoch, Stops, raws}
+use Rattle.live_merge.specs.private.Epochs.{AtFramesAfter, GivesNext, GivesNone, GivesOne, IsRest, MeetsLimit, StandsInEpoch, Stops, raws}
 use Rattle.live_merge.proofs.Scopes.{frames_grow}
 
 abbrev pub Tables : Type 0
@@ -146,7 +145,8 @@ coming_long path_of s = length-map (samples_to_come path_of s) (raw_of (length s
 abbrev pub IsOwn : ℕ → ColumnRaw → Type 0
 IsOwn columns s = s.column < columns
 
-pub record SoFar (path_of : Paths) (columns events : ℕ) (first : Tables) (start now : Sampling) (taken : ℕ) (all own : Tables) : Type 0 where
+-- the samples that were given were counted with all before
+pub record AllSoFar (path_of : Paths) (columns events : ℕ) (first : Tables) (start now : Sampling) (taken : ℕ) (all : Tables) : Type 0 where
   pub given : List Sample
   pub gave : Gave path_of given start now
   pub as_many : length given ≡ taken
@@ -156,34 +156,26 @@ pub record SoFar (path_of : Paths) (columns events : ℕ) (first : Tables) (star
   pub last : (to_come now.machine).final ≡ (to_come start.machine).final
   pub left_own : All (IsOwn columns) (coming path_of now)
   pub all_long : length all ≡ columns
-  pub own_long : length own ≡ columns
-  pub own_are : own ≡ distinct columns (raws start given)
-  pub own_count : samples_in own ≡ length given
   pub count : samples_in all ≡ now.met
   pub all_are : (done : List ColumnRaw) → first ≡ distinct columns done → length done ≡ start.met → (all ≡ distinct columns (done ++ raws start given)) × (frames_in all ≤ most_frames_in_all)
 
-pub so_far_first : (path_of : Paths) (columns events asked : ℕ) (first own : Tables) (start : Sampling) → columns ≡ length first → asked ≡ length first → length start.events ≡ events → All (IsOwn columns) (coming path_of start) → samples_in first ≡ start.met → samples_in first ≤ most_samples → frames_in first ≤ most_frames_in_all
-    → own ≡ distinct asked [] → samples_in own ≡ 0 → length (distinct columns []) ≡ columns → SoFar path_of columns events first start start 0 first own
-so_far_first path_of columns events asked first own start is asked_is same all met few frames own_is none many =
-    let own_are : own ≡ distinct columns [] = own_is ∙ ap (λ (n : ℕ). distinct n []) (asked_is ∙ sym is) in
-    record {
-      given = [];
-      gave = no_samples path_of start;
-      as_many = refl;
-      same = same;
-      met = omega arith;
-      few = omega (arith, met, few);
-      last = refl;
-      left_own = all;
-      all_long = sym is;
-      own_long = ap (λ (t : Tables). length t) own_are ∙ many;
-      own_are = own_are;
-      own_count = none;
-      count = met;
-      all_are = λ done first_is long. (first_is ∙ ap (distinct columns) (sym (append-nil done)), frames);
-    }
+abbrev pub all_first : (path_of : Paths) (columns events : ℕ) (first : Tables) (start : Sampling) → columns ≡ length first → length start.events ≡ events → All (IsOwn columns) (coming path_of start) → samples_in first ≡ start.met → samples_in first ≤ most_samples → frames_in first ≤ most_frames_in_all
+    → AllSoFar path_of columns events first start start 0 first
+all_first path_of columns events first start is same all met few frames = record {
+  given = [];
+  gave = no_samples path_of start;
+  as_many = refl;
+  same = same;
+  met = omega arith;
+  few = omega (arith, met, few);
+  last = refl;
+  left_own = all;
+  all_long = sym is;
+  count = met;
+  all_are = λ done first_is long. (first_is ∙ ap (distinct columns) (sym (append-nil done)), frames);
+}
 
-module _ (path_of : Paths) (columns events : ℕ) (first : Tables) (start now next : Sampling) (taken : ℕ) (all own : Tables) (sofar : SoFar path_of columns events first start now taken all own) where
+module _ (path_of : Paths) (columns events : ℕ) (first : Tables) (start now next : Sampling) (taken : ℕ) (all : Tables) (sofar : AllSoFar path_of columns events first start now taken all) where
   now_events : length now.events ≡ events
   now_events = ap (λ (es : List EventPeriod). length es) sofar.gave.events ∙ sofar.same
 
@@ -200,31 +192,25 @@ module _ (path_of : Paths) (columns events : ℕ) (first : Tables) (start now ne
     next_coming : coming path_of now ≡ raw ∷ coming path_of next
     next_coming = coming_parts path_of (sample ∷ []) now next (gave_one path_of sample now next gives) ∙ ap (λ (r : ColumnRaw). r ∷ coming path_of next) raw_is
 
-    left : All (IsOwn columns) (raw ∷ coming path_of next)
+    pub left : All (IsOwn columns) (raw ∷ coming path_of next)
     left = subst (All (IsOwn columns)) next_coming sofar.left_own
 
-    own_raw : raw.column < columns
+    pub own_raw : raw.column < columns
     own_raw = All-head (IsOwn columns) raw (coming path_of next) left
 
     pub all_column : raw.column < length all
     all_column = (let lt = own_raw in let long = sofar.all_long in omega (arith, lt, long))
 
-    pub own_column : raw.column < length own
-    own_column = (let lt = own_raw in let long = sofar.own_long in omega (arith, lt, long))
-
     pub all_room : samples_in all < most_samples
     all_room = (let count = sofar.count in let one = gives.given.met in let few = gives.given.few in omega (arith, count, one, few))
-
-    pub own_room : samples_in own < most_samples
-    own_room = (let count = sofar.own_count in let met = sofar.met in let one = gives.given.met in let few = gives.given.few in omega (arith, count, met, one, few))
 
     pub gave' : Gave path_of given' start next
     gave' = gave_more path_of sofar.given (sample ∷ []) start now next sofar.gave (gave_one path_of sample now next gives)
 
-    given_long : length given' ≡ length sofar.given + 1
+    pub given_long : length given' ≡ length sofar.given + 1
     given_long = length-append sofar.given (sample ∷ [])
 
-    raws_are : raws start given' ≡ raws start sofar.given ++ raw ∷ []
+    pub raws_are : raws start given' ≡ raws start sofar.given ++ raw ∷ []
     raws_are = raws_more start sofar.given (sample ∷ []) ∙ ap (λ (n : ℕ). raws start sofar.given ++ raw_of n sample ∷ []) sofar.same
 
     front_are : (done : List ColumnRaw) → done ++ raws start given' ≡ (done ++ raws start sofar.given) ++ raw ∷ []
@@ -241,7 +227,7 @@ module _ (path_of : Paths) (columns events : ℕ) (first : Tables) (start now ne
         omega (arith, both, own_raws, size, met, one, few, long)
 
     -- with this sample
-    all_more : (done : List ColumnRaw) (r : Result Tables LiveFault) → ((d : List ColumnRaw) → all ≡ distinct (length all) d → few_frames_of (distinct (length all) (d ++ raw ∷ [])) ≡ r)
+    pub all_more : (done : List ColumnRaw) (r : Result Tables LiveFault) → ((d : List ColumnRaw) → all ≡ distinct (length all) d → few_frames_of (distinct (length all) (d ++ raw ∷ [])) ≡ r)
         → first ≡ distinct columns done → length done ≡ start.met → few_frames_of (distinct columns (done ++ raws start given')) ≡ r
     all_more done r counts is long =
         let are : all ≡ distinct columns (done ++ raws start sofar.given) = (sofar.all_are done is long).0 in
@@ -250,17 +236,10 @@ module _ (path_of : Paths) (columns events : ℕ) (first : Tables) (start now ne
         ∙ ap (λ (n : ℕ). few_frames_of (distinct n ((done ++ raws start sofar.given) ++ raw ∷ []))) (sym sofar.all_long)
         ∙ counts (done ++ raws start sofar.given) asked
 
-    own_more : (r : Result Tables LiveFault) → ((d : List ColumnRaw) → own ≡ distinct (length own) d → few_frames_of (distinct (length own) (d ++ raw ∷ [])) ≡ r) → few_frames_of (distinct columns (raws start given')) ≡ r
-    own_more r counts =
-        let asked : own ≡ distinct (length own) (raws start sofar.given) = sofar.own_are ∙ ap (λ (n : ℕ). distinct n (raws start sofar.given)) (sym sofar.own_long) in
-        ap (λ (l : List ColumnRaw). few_frames_of (distinct columns l)) raws_are
-        ∙ ap (λ (n : ℕ). few_frames_of (distinct n (raws start sofar.given ++ raw ∷ []))) (sym sofar.own_long) ∙ counts (raws start sofar.given) asked
-
-    pub so_far_more : (all' own' : Tables) → (to_come next.machine).final ≡ (to_come now.machine).final
+    abbrev pub all_so_far_more : (all' : Tables) → (to_come next.machine).final ≡ (to_come now.machine).final
         → ((d : List ColumnRaw) → all ≡ distinct (length all) d → few_frames_of (distinct (length all) (d ++ raw ∷ [])) ≡ Ok all') → samples_in all' ≡ samples_in all + 1 → length all' ≡ length all
-        → ((d : List ColumnRaw) → own ≡ distinct (length own) d → few_frames_of (distinct (length own) (d ++ raw ∷ [])) ≡ Ok own') → samples_in own' ≡ samples_in own + 1 → length own' ≡ length own
-        → SoFar path_of columns events first start next (taken + 1) all' own'
-    so_far_more all' own' last counts count long own_counts own_count own_long = record {
+        → AllSoFar path_of columns events first start next (taken + 1) all'
+    all_so_far_more all' last counts count long = record {
       given = given';
       gave = gave';
       as_many = (let size = given_long in let was = sofar.as_many in omega (arith, size, was));
@@ -270,9 +249,6 @@ module _ (path_of : Paths) (columns events : ℕ) (first : Tables) (start now ne
       last = last ∙ sofar.last;
       left_own = All-tail (IsOwn columns) raw (coming path_of next) left;
       all_long = long ∙ sofar.all_long;
-      own_long = own_long ∙ sofar.own_long;
-      own_are = sym (few_are (distinct columns (raws start given')) own' (own_more (Ok own') own_counts)).0;
-      own_count = (let size = given_long in let was = sofar.own_count in omega (arith, size, was, own_count));
       count = (let was = sofar.count in let one = gives.given.met in omega (arith, was, one, count));
       all_are = λ done is done_long.
           let are = few_are (distinct columns (done ++ raws start given')) all' (all_more done (Ok all') counts is done_long) in
@@ -282,10 +258,10 @@ module _ (path_of : Paths) (columns events : ℕ) (first : Tables) (start now ne
     }
 
     -- too many frames with it
-    pub so_far_refused : (most : ℕ) (fail : Fail LiveFault) (all' : Tables) → ((d : List ColumnRaw) → all ≡ distinct (length all) d → FailsBy fail (few_frames_of (distinct (length all) (d ++ raw ∷ []))))
-        → (done : List ColumnRaw) → first ≡ distinct columns done → length done ≡ start.met → GivesEpoch path_of columns most done (Err fail) all' start next
-    so_far_refused most (fails.Memory memory) all' counts done is long = inl (given', gave')
-    so_far_refused most (fails.Fault fault) all' counts done is long =
+    pub so_far_refused : (fail : Fail LiveFault) → ((d : List ColumnRaw) → all ≡ distinct (length all) d → FailsBy fail (few_frames_of (distinct (length all) (d ++ raw ∷ []))))
+        → (done : List ColumnRaw) → first ≡ distinct columns done → length done ≡ start.met → MeetsLimit path_of columns done fail start next
+    so_far_refused (fails.Memory memory) counts done is long = inl (given', gave')
+    so_far_refused (fails.Fault fault) counts done is long =
         let before = sofar.all_are done is long in
         let refused : few_frames_of (distinct columns (done ++ raws start given')) ≡ Err fault = all_more done (Err fault) counts is long in
         let many = many_are (distinct columns (done ++ raws start given')) fault refused in
@@ -302,71 +278,30 @@ module _ (path_of : Paths) (columns events : ℕ) (first : Tables) (start now ne
           subst (λ (f : LiveFault). StandsInEpoch path_of columns done f start next) many.0 at,
         )
 
-    -- the epoch alone has no more frames
-    pub so_far_own : (most : ℕ) (fail : Fail LiveFault) (all' : Tables) → ((d : List ColumnRaw) → all ≡ distinct (length all) d → few_frames_of (distinct (length all) (d ++ raw ∷ [])) ≡ Ok all')
-        → ((d : List ColumnRaw) → own ≡ distinct (length own) d → FailsBy fail (few_frames_of (distinct (length own) (d ++ raw ∷ []))))
-        → (done : List ColumnRaw) → first ≡ distinct columns done → length done ≡ start.met → GivesEpoch path_of columns most done (Err fail) all' start next
-    so_far_own most (fails.Memory memory) all' counts own_counts done is long = inl (given', gave')
-    so_far_own most (fails.Fault fault) all' counts own_counts done is long =
-        let few = (few_are (distinct columns (done ++ raws start given')) all' (all_more done (Ok all') counts is long)).1 in
-        let many = (many_are (distinct columns (raws start given')) fault (own_more (Err fault) own_counts)).1 in
-        let grows : frames_in (distinct columns (raws start given')) ≤ frames_in (distinct columns (done ++ (raws start given' ++ []))) = frames_grow columns done (raws start given') [] in
-        let all_of : frames_in (distinct columns (done ++ (raws start given' ++ []))) ≡ frames_in (distinct columns (done ++ raws start given')) = ap (λ (l : List ColumnRaw). frames_in (distinct columns (done ++ l))) (append-nil (raws start given')) in
-        absurd (omega (arith, few, many, grows, all_of))
-
-  -- none is left
-  pub so_far_over : (most : ℕ) (epoch : Epoch) → taken < most → GivesNone path_of now next → (to_come next.machine).final ≡ (to_come now.machine).final → epoch.is_last ≡ true → epoch.samples ≡ taken → epoch.ccts ≡ own
-      → (done : List ColumnRaw) → first ≡ distinct columns done → length done ≡ start.met → IsEpoch path_of columns most done epoch all start next
-  so_far_over most epoch early none last is_last samples ccts done is long =
+  -- none is left, and the run is at its end
+  pub so_far_rest : GivesNone path_of now next → (to_come next.machine).final ≡ (to_come now.machine).final
+      → (done : List ColumnRaw) → first ≡ distinct columns done → length done ≡ start.met → IsRest path_of columns done taken all start next
+  so_far_rest none last done is long =
       let are = sofar.all_are done is long in
       record {
         given = sofar.given;
-        left = λ ends. absurd (let both : true ≡ false = sym is_last ∙ ends in cc);
-        none = λ _. sofar.gave.parts ∙ ap (λ (l : List Sample). sofar.given ++ l) none.over.none ∙ append-nil sofar.given;
+        none = sofar.gave.parts ∙ ap (λ (l : List Sample). sofar.given ++ l) none.over.none ∙ append-nil sofar.given;
         events = none.events ∙ sofar.gave.events;
         all_are = are.0;
         fits = are.1;
-        own_are = ccts ∙ sofar.own_are;
-        own_count = ap samples_in ccts ∙ sofar.own_count;
-        samples = samples ∙ sym sofar.as_many;
+        samples_are = sym sofar.as_many;
         met = none.over.met ∙ sofar.met;
         few = (let met = none.over.met in let few = sofar.few in omega (arith, met, few));
         count = sofar.count ∙ sym none.over.met;
-        within = (let many = sofar.as_many in omega (arith, many, early));
-        full = λ ends. absurd (let both : true ≡ false = sym is_last ∙ ends in cc);
-        ended = λ _. sym (ap (λ (r : Run). r.final) none.over.ended) ∙ last ∙ sofar.last;
+        ended = sym (ap (λ (r : Run). r.final) none.over.ended) ∙ last ∙ sofar.last;
         last = last ∙ sofar.last;
       }
 
-  -- as many as an epoch has
-  pub so_far_full : (most : ℕ) (epoch : Epoch) → taken ≡ most → epoch.is_last ≡ false → epoch.samples ≡ most → epoch.ccts ≡ own
-      → (done : List ColumnRaw) → first ≡ distinct columns done → length done ≡ start.met → IsEpoch path_of columns most done epoch all start now
-  so_far_full most epoch full is_last samples ccts done is long =
-      let are = sofar.all_are done is long in
-      record {
-        given = sofar.given;
-        left = λ _. sofar.gave;
-        none = λ over. absurd (let both : false ≡ true = sym is_last ∙ over in cc);
-        events = sofar.gave.events;
-        all_are = are.0;
-        fits = are.1;
-        own_are = ccts ∙ sofar.own_are;
-        own_count = ap samples_in ccts ∙ sofar.own_count;
-        samples = samples ∙ sym (sofar.as_many ∙ full);
-        met = sofar.met;
-        few = sofar.few;
-        count = sofar.count;
-        within = (let many = sofar.as_many in omega (arith, many, full));
-        full = λ _. sofar.as_many ∙ full;
-        ended = λ over. absurd (let both : false ≡ true = sym is_last ∙ over in cc);
-        last = sofar.last;
-      }
-
   -- one more than there may be
-  pub so_far_stops : (most : ℕ) (fail : Fail LiveFault) → Stops path_of fail now next
-      → (done : List ColumnRaw) → first ≡ distinct columns done → length done ≡ start.met → GivesEpoch path_of columns most done (Err fail) all start next
-  so_far_stops most (fails.Memory memory) stops done is long = inl (sofar.given ++ [], gave_more path_of sofar.given [] start now next sofar.gave stops)
-  so_far_stops most (fails.Fault fault) stops done is long =
+  pub so_far_stops : (fail : Fail LiveFault) → Stops path_of fail now next
+      → (done : List ColumnRaw) → first ≡ distinct columns done → length done ≡ start.met → MeetsLimit path_of columns done fail start next
+  so_far_stops (fails.Memory memory) stops done is long = inl (sofar.given ++ [], gave_more path_of sofar.given [] start now next sofar.gave stops)
+  so_far_stops (fails.Fault fault) stops done is long =
       let are = sofar.all_are done is long in
       let front : List ColumnRaw = done ++ raws start sofar.given in
       let parts : done ++ coming path_of start ≡ front ++ coming path_of now =

@@ -4,7 +4,9 @@ pub mod Orders
 pub mod Merging
 pub mod Scopes
 pub mod Epochs
+pub mod EpochSoFar
 pub mod Grown
 pub mod Running
+pub mod Rest
 pub mod Counting
 pub mod Holding

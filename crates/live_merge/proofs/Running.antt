@@ -34,7 +34,7 @@ All_back : (n : ℕ) (xs ys : List ColumnRaw) → All (IsOwn n) (xs ++ ys) → A
 All_back n [] ys h = h
 All_back n (x ∷ xs) ys h = All_back n xs ys (All-tail (IsOwn n) x (xs ++ ys) h)
 
-raws_same : (a b : Sampling) (xs : List Sample) → b.events ≡ a.events → raws b xs ≡ raws a xs
+pub raws_same : (a b : Sampling) (xs : List Sample) → b.events ≡ a.events → raws b xs ≡ raws a xs
 raws_same a b xs events = ap (λ (es : List EventPeriod). map (raw_of (length es)) xs) events
 
 -- ---- the limits
@@ -190,42 +190,65 @@ module _ (path_of : Paths) (call_path : CallPath) (columns most : ℕ) (start no
     pub merged_counted : counted_by new.trees.items ≤ length samples
     merged_counted = (let size = length-append is.before is.own in let a = is.counted in let b = is.own_count in let c = merges.counted in omega (arith, size, a, b, c))
 
-  -- ---- the end of the run
-  module _ (ended : last.is_last ≡ true) where
-    all_are : coming path_of start ≡ raws start samples
-    all_are = ap (map (raw_of (length start.events))) (is.none ended)
+-- ---- the end of the run
 
-    pub run_few_enough : few_of_run columns (coming path_of start) ≡ Ok (coming path_of start)
-    run_few_enough =
-        let size = coming_long path_of start in
-        let same = ap (λ (l : List Sample). length l) (is.none ended) in
-        let met = is.met in
-        let few = is.few in
-        let fits = is.fits in
-        let tables = ap frames_in (is.all_are ∙ ap (distinct columns) (sym all_are)) in
-        run_few columns (coming path_of start) (omega (arith, size, same, met, few)) (omega (arith, fits, tables))
+-- the samples of the whole run were given and counted, and it is at its end
+pub record HasEnded (path_of : Paths) (columns : ℕ) (start now : Sampling) (given : List Sample) (all : Tables) (count : ℕ) : Type 0 where
+  pub none : samples_to_come path_of start ≡ given
+  pub all_are : all ≡ distinct columns (raws start given)
+  pub fits : frames_in all ≤ most_frames_in_all
+  pub count_is : count ≡ length given
+  pub met : now.met ≡ length given
+  pub few : now.met ≤ most_samples
+  pub ended : now.machine.state ≡ (to_come start.machine).final
 
-    pub whole_answer : (tree : CountedTree) → tree.columns ≡ columns → GivesWhole call_path columns (raws start samples) (Ok tree) → IsWhole path_of call_path columns (record { tree = tree; ccts = all; samples = count }) start now
-    whole_answer tree columns_are gives = record {
-      limits = limits_of call_path columns (coming path_of start) (Ok (coming path_of start)) run_few_enough
-          (subst (λ (l : List ColumnRaw). few_scopes_of call_path columns l ≡ Ok l) (sym all_are) gives.0);
-      columns_are = columns_are;
-      paths = subst (λ (l : List ColumnRaw). HasPaths (sampled_paths call_path l) tree) (sym all_are) gives.1;
-      counted = is.all_are ∙ ap (distinct columns) (sym all_are);
-      samples = (let size = coming_long path_of start in let same = ap (λ (l : List Sample). length l) (is.none ended) in let c = is.count_is in omega (arith, size, same, c));
-      ended = is.ended ended;
-    }
+pub has_ended : (path_of : Paths) (call_path : CallPath) (columns most : ℕ) (start now : Sampling) (all : Tables) (trees : Trees) (last : Epoch) (count : ℕ) (is : Running path_of call_path columns most start now all trees last count) → last.is_last ≡ true
+    → HasEnded path_of columns start now (is.before ++ is.own) all count
+has_ended path_of call_path columns most start now all trees last count is ended = record {
+  none = is.none ended;
+  all_are = is.all_are;
+  fits = is.fits;
+  count_is = is.count_is;
+  met = is.met;
+  few = is.few;
+  ended = is.ended ended;
+}
 
-    pub whole_fails : (fail : Fail LiveFault) → GivesWhole call_path columns (raws start samples) (Err fail) → AnswersLive path_of call_path columns (Err fail) start now
-    whole_fails (fails.Memory memory) gives = tt
-    whole_fails (fails.Fault fault) gives =
-        limits_of call_path columns (coming path_of start) (Err fault) run_few_enough (ap (few_scopes_of call_path columns) all_are ∙ gives)
+module _ (path_of : Paths) (call_path : CallPath) (columns : ℕ) (start now : Sampling) (samples : List Sample) (all : Tables) (count : ℕ) (is : HasEnded path_of columns start now samples all count) where
+  all_are : coming path_of start ≡ raws start samples
+  all_are = ap (map (raw_of (length start.events))) is.none
 
-    pub whole_stands : (fail : Fail LiveFault) → GivesWhole call_path columns (raws start samples) (Err fail) → StandsAfter path_of columns (Err fail) start now
-    whole_stands (fails.Memory memory) gives = inr (is.ended ended)
-    whole_stands (fails.Fault fault) gives =
-        let many = tested_err (nat_lt most_scopes_in_all (scopes_in call_path (distinct columns (raws start samples)))) TooManyScopes fault (raws start samples) gives in
-        subst (λ (f : LiveFault). StandsAt path_of columns f start now) many.1 (is.ended ended)
+  pub run_few_enough : few_of_run columns (coming path_of start) ≡ Ok (coming path_of start)
+  run_few_enough =
+      let size = coming_long path_of start in
+      let same = ap (λ (l : List Sample). length l) is.none in
+      let met = is.met in
+      let few = is.few in
+      let fits = is.fits in
+      let tables = ap frames_in (is.all_are ∙ ap (distinct columns) (sym all_are)) in
+      run_few columns (coming path_of start) (omega (arith, size, same, met, few)) (omega (arith, fits, tables))
+
+  pub whole_answer : (tree : CountedTree) → tree.columns ≡ columns → GivesWhole call_path columns (raws start samples) (Ok tree) → IsWhole path_of call_path columns (record { tree = tree; ccts = all; samples = count }) start now
+  whole_answer tree columns_are gives = record {
+    limits = limits_of call_path columns (coming path_of start) (Ok (coming path_of start)) run_few_enough
+        (subst (λ (l : List ColumnRaw). few_scopes_of call_path columns l ≡ Ok l) (sym all_are) gives.0);
+    columns_are = columns_are;
+    paths = subst (λ (l : List ColumnRaw). HasPaths (sampled_paths call_path l) tree) (sym all_are) gives.1;
+    counted = is.all_are ∙ ap (distinct columns) (sym all_are);
+    samples = (let size = coming_long path_of start in let same = ap (λ (l : List Sample). length l) is.none in let c = is.count_is in omega (arith, size, same, c));
+    ended = is.ended;
+  }
+
+  pub whole_fails : (fail : Fail LiveFault) → GivesWhole call_path columns (raws start samples) (Err fail) → AnswersLive path_of call_path columns (Err fail) start now
+  whole_fails (fails.Memory memory) gives = tt
+  whole_fails (fails.Fault fault) gives =
+      limits_of call_path columns (coming path_of start) (Err fault) run_few_enough (ap (few_scopes_of call_path columns) all_are ∙ gives)
+
+  pub whole_stands : (fail : Fail LiveFault) → GivesWhole call_path columns (raws start samples) (Err fail) → StandsAfter path_of columns (Err fail) start now
+  whole_stands (fails.Memory memory) gives = inr is.ended
+  whole_stands (fails.Fault fault) gives =
+      let many = tested_err (nat_lt most_scopes_in_all (scopes_in call_path (distinct columns (raws start samples)))) TooManyScopes fault (raws start samples) gives in
+      subst (λ (f : LiveFault). StandsAt path_of columns f start now) many.1 is.ended
 
 -- ---- steps of the run
 

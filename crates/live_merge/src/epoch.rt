@@ -3,10 +3,10 @@ ghost use Rattle.std.specs.Prelude.{◌≡◌, ◌+◌, ◌*◌, ◌^◌, ◌<�
 ghost use Rattle.prof_bytes.specs.Outcome.{Gives};
 ghost use Rattle.rv_run.specs.Progress.{to_come};
 ghost use Rattle.scope_types.specs.Distinct.{ColumnRaw, distinct, frames_in, samples_in};
-ghost use Rattle.scope_types.specs.Limits.{most_samples};
+ghost use Rattle.scope_types.specs.Limits.{most_frames_in_all, most_samples};
 ghost use Rattle.sample_clock.specs.Clock.{AnswersNext};
 ghost use Rattle.live_merge.specs.Live.{coming, few_frames_of, raw_of};
-ghost use Rattle.live_merge.specs.private.Epochs.{GivesEpoch, GivesNext};
+ghost use Rattle.live_merge.specs.private.Epochs.{GivesEpoch, GivesNext, GivesRest};
 
 use crate::fault::LiveFault;
 use prof_bytes::{Fail, Memory};
@@ -44,6 +44,7 @@ fn count(ccts: &mut Ccts, events: u32, sample: &Sample) -> Result<(), Fail<LiveF
 }
 
 /// The next sample; `None` where the run has ended.
+#[inline(always)]
 fn next_sample<U: Unwind>(
     samples: &mut Samples<'_>,
     unwinder: &U,
@@ -102,4 +103,38 @@ pub fn next_epoch<U: Unwind>(
         samples: u64::from(epoch),
         is_last: false,
     })
+}
+
+/// Counts the samples that are left of a run with those before, until it has ended. Gives how many they are. The samples
+/// so far are `done`.
+pub fn count_rest<U: Unwind>(
+    all: &mut Ccts,
+    samples: &mut Samples<'_>,
+    unwinder: &U,
+    events: u32,
+) -> Result<u64, Fail<LiveFault>>
+    requires events { length samples.old.events ≡ events }
+    requires columns { length all.old < 2 ^ 32 }
+    requires own { All (λ s. s.column < length all.old) (coming (U.path_of unwinder.now) samples.old) }
+    requires met { samples_in all.old ≡ samples.old.met }
+    requires few { samples_in all.old ≤ most_samples }
+    requires frames { frames_in all.old ≤ most_frames_in_all }
+    ensures rest { (done : List ColumnRaw) → all.old ≡ distinct (length all.old) done → length done ≡ samples.old.met
+        → GivesRest (U.path_of unwinder.now) (length all.old) done result all.new samples.old samples.new }
+    ensures columns { length all.new ≡ length all.old }
+{
+    samples_are_counted();
+    let mut taken: u64 = 0;
+    loop {
+        match next_sample(samples, unwinder) {
+            Ok(Some(sample)) => {
+                count(all, events, &sample)?;
+                let Sample { path, .. } = sample;
+                samples.take_back(path);
+                taken += 1;
+            }
+            Ok(None) => return Ok(taken),
+            Err(fail) => return Err(fail),
+        }
+    }
 }

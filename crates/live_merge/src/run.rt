@@ -9,7 +9,7 @@ ghost use Rattle.live_merge.specs.Live.{AnswersLive, StandsAfter, coming, few_sc
 ghost use Rattle.live_merge.specs.private.Epochs.{AddsAll, AreMerged, AreSmall, GivesEpoch, GivesWhole, Merges};
 ghost use Rattle.live_merge.specs.private.Epochs.{counted_by};
 
-use crate::epoch::{Epoch, next_epoch};
+use crate::epoch::{Epoch, count_rest, next_epoch};
 use crate::fault::LiveFault;
 use crate::merger::Merger;
 use crate::trees::Trees;
@@ -19,7 +19,7 @@ use sample_clock::Samples;
 use scope_types::{Expand, Unwind};
 use std::alloc::Global;
 use std::thread::{Threads, join_mut};
-use thread_cct::{Ccts, Plan, samples_are_counted};
+use thread_cct::{Ccts, Plan, TooManyScopes, plans_hold_counted_paths, samples_are_counted};
 use tree_types::Tree;
 
 /// The tree of all samples of a run; the samples of each column by their distinct raw paths; and how many they are.
@@ -149,9 +149,46 @@ fn whole<R: Threads + Sync, E: Expand + Sync, M: Merger>(
     }
 }
 
+/// The tree of the samples of the whole run, which are merged at once, unless they have too many scopes.
+fn merge_at_once<R: Threads + Sync, E: Expand + Sync, M: Merger>(
+    rt: &R,
+    alloc: Global,
+    all: &Ccts,
+    expand: &E,
+    merger: &M,
+) -> Result<Tree, Fail<LiveFault>>
+    requires some { (raw : Raw) → 0 < length (E.call_path expand.now raw) }
+    ensures columns { IfOk result (λ tree. tree.columns ≡ length all.now) }
+    ensures whole { (done : List ColumnRaw) → all.now ≡ distinct (length all.now) done
+        → All (λ s. s.column < length all.now) done
+        → GivesWhole (E.call_path expand.now) (length all.now) done result }
+{
+    plans_hold_counted_paths();
+    samples_are_counted();
+    match Plan::of(alloc, all, expand) {
+        Ok(plan) => {
+            let tree = merger.merge(rt, alloc, &plan, expand)?;
+            Ok(tree)
+        }
+        Err(Fail::Fault(TooManyScopes)) => Err(Fail::Fault(LiveFault::TooManyScopes)),
+        Err(Fail::Memory(memory)) => Err(Fail::Memory(memory)),
+    }
+}
+
+/// Whether so many samples have fewer than half as many distinct raw paths.
+fn paths_come_again(all: &Ccts, samples: u64) -> bool {
+    let mut paths: u64 = 0;
+    for column in 0..all.columns() {
+        paths = paths.saturating_add(u64::from(all.len(column)));
+    }
+    paths < samples / 2
+}
+
 /// The tree of a run's samples, merged while the run goes on: an epoch is the part of it that gives the next `epoch`
 /// samples, and the last one is what remains. While the machine runs one epoch, the samples of the one before are
-/// merged. The answer is the same for every length of an epoch, and every key. After a refusal the run stands where it was met, and
+/// merged. Where the paths come again after two epochs or more, each epoch would merge again what others have merged:
+/// then the samples that remain are counted with the others alone, and those of the whole run are merged at its end. The
+/// answer is the same for every length of an epoch, and every key. After a refusal the run stands where it was met, and
 /// after want of memory where the samples given have left it.
 pub fn run_live<R: Threads + Sync, U: Unwind + Sync, E: Expand + Sync, M: Merger>(
     rt: &R,
@@ -181,6 +218,15 @@ pub fn run_live<R: Threads + Sync, U: Unwind + Sync, E: Expand + Sync, M: Merger
     let mut last = next_epoch(alloc, &mut all, samples, unwinder, events, epoch)?;
     let mut count = last.samples;
     while !last.is_last {
+        if count > u64::from(epoch) && paths_come_again(&all, count) {
+            let rest = count_rest(&mut all, samples, unwinder, events)?;
+            let merged = merge_at_once(rt, alloc, &all, expand, merger)?;
+            return Ok(Live {
+                tree: merged,
+                ccts: all,
+                samples: count + rest,
+            });
+        }
         let next = run_and_merge(
             rt, alloc, &mut all, samples, unwinder, expand, merger, events, epoch, &mut trees,
             &last.ccts,

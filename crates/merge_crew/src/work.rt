@@ -20,7 +20,7 @@ use std::alloc::Global;
 use std::collections::VecDeque;
 use std::thread;
 use stripe_table::{Offered, Pass, Stripes};
-use thread_cct::{Pieces, Plan, pieces_make_the_plan};
+use thread_cct::{KeptScopes, Pieces, Plan, pieces_make_the_plan};
 
 /// How often a piece is offered while its stripe is busy.
 const MOST_OFFERS: u32 = 64;
@@ -89,11 +89,13 @@ fn waits_on(queue: &mut VecDeque<Waiting>, waiting: Waiting) -> bool
     true
 }
 
-/// Offers a piece, which the gate is told of before the first time, and counts what became of it.
+/// Offers a piece, which the gate is told of before the first time, and counts what became of it. Where it is merged, the
+/// memory of its paths is kept.
 fn offer_piece<G: Gate>(
     stripes: &Stripes,
     worker: &mut Worker,
     queue: &mut VecDeque<Waiting>,
+    kept: &mut KeptScopes,
     waiting: Waiting,
     gate: &G,
 )
@@ -112,7 +114,10 @@ fn offer_piece<G: Gate>(
         gate.pass(worker.number, waiting.piece.chunk, waiting.piece.stripe);
     }
     match offer_once(stripes, &mut worker.pass, &waiting.piece) {
-        Offered::Merged => worker.merged += 1,
+        Offered::Merged => {
+            worker.merged += 1;
+            kept.keep_piece(waiting.piece);
+        }
         Offered::Present { .. } => worker.present += 1,
         Offered::Busy { .. } => {
             if !waits_on(queue, waiting) {
@@ -128,6 +133,7 @@ fn offer_next<G: Gate>(
     stripes: &Stripes,
     worker: &mut Worker,
     queue: &mut VecDeque<Waiting>,
+    kept: &mut KeptScopes,
     gate: &G,
 )
     requires counts { Counts stripes.now (length queue.old.items) worker.old }
@@ -141,7 +147,7 @@ fn offer_next<G: Gate>(
     ensures fewer { 0 < length queue.old.items → offers_left queue.new.items < offers_left queue.old.items }
 {
     if let Some(waiting) = queue.pop_front() {
-        offer_piece(stripes, worker, queue, waiting, gate);
+        offer_piece(stripes, worker, queue, kept, waiting, gate);
     }
 }
 
@@ -150,6 +156,7 @@ fn offer_oldest<G: Gate>(
     stripes: &Stripes,
     worker: &mut Worker,
     queue: &mut VecDeque<Waiting>,
+    kept: &mut KeptScopes,
     gate: &G,
 )
     requires counts { Counts stripes.now (length queue.old.items) worker.old }
@@ -162,7 +169,7 @@ fn offer_oldest<G: Gate>(
     ensures keeps { KeepsDraws worker.old worker.new }
 {
     for _ in 0..queue.len().min(OFFERED_AT_ONCE) {
-        offer_next(stripes, worker, queue, gate);
+        offer_next(stripes, worker, queue, kept, gate);
     }
 }
 
@@ -171,6 +178,7 @@ fn offer_down<G: Gate>(
     stripes: &Stripes,
     worker: &mut Worker,
     queue: &mut VecDeque<Waiting>,
+    kept: &mut KeptScopes,
     most: usize,
     gate: &G,
 )
@@ -185,7 +193,7 @@ fn offer_down<G: Gate>(
     ensures down { worker.new.failed ≡ None → length queue.new.items ≤ most }
 {
     while queue.len() > most && worker.failed.is_none() {
-        offer_next(stripes, worker, queue, gate);
+        offer_next(stripes, worker, queue, kept, gate);
         thread::yield_now();
     }
 }
@@ -205,6 +213,7 @@ fn offer_chunk<G: Gate>(
     stripes: &Stripes,
     worker: &mut Worker,
     queue: &mut VecDeque<Waiting>,
+    kept: &mut KeptScopes,
     _chunk: u32,
     pieces: Pieces,
     gate: &G,
@@ -224,8 +233,8 @@ fn offer_chunk<G: Gate>(
 {
     match put_last(queue, pieces.into_vec()) {
         Ok(()) => {
-            offer_oldest(stripes, worker, queue, gate);
-            offer_down(stripes, worker, queue, MOST_WAITING, gate);
+            offer_oldest(stripes, worker, queue, kept, gate);
+            offer_down(stripes, worker, queue, kept, MOST_WAITING, gate);
         }
         Err(memory) => {
             queue.clear();
@@ -240,6 +249,7 @@ fn merge_chunk<E: Expand, G: Gate>(
     stripes: &Stripes,
     worker: &mut Worker,
     queue: &mut VecDeque<Waiting>,
+    kept: &mut KeptScopes,
     plan: &Plan<'_>,
     expand: &E,
     memo: &mut E::Memo,
@@ -262,8 +272,8 @@ fn merge_chunk<E: Expand, G: Gate>(
     ensures keeps { KeepsDraws worker.old worker.new }
 {
     pieces_make_the_plan();
-    match plan.cut(alloc, expand, memo, chunk) {
-        Ok(pieces) => offer_chunk(stripes, worker, queue, chunk, pieces, gate),
+    match plan.cut_in(alloc, expand, memo, kept, chunk) {
+        Ok(pieces) => offer_chunk(stripes, worker, queue, kept, chunk, pieces, gate),
         Err(memory) => worker.failed = Some(memory),
     }
 }
@@ -275,6 +285,7 @@ fn claim_all<E: Expand, G: Gate>(
     stripes: &Stripes,
     worker: &mut Worker,
     queue: &mut VecDeque<Waiting>,
+    kept: &mut KeptScopes,
     plan: &Plan<'_>,
     expand: &E,
     gate: &G,
@@ -308,7 +319,7 @@ fn claim_all<E: Expand, G: Gate>(
         };
         drawn += 1;
         merge_chunk(
-            alloc, stripes, worker, queue, plan, expand, &mut memo, gate, chunk,
+            alloc, stripes, worker, queue, kept, plan, expand, &mut memo, gate, chunk,
         );
     }
 }
@@ -331,6 +342,9 @@ pub(crate) fn work<E: Expand, G: Gate>(
     ensures keeps { KeepsPasses worker.old worker.new }
 {
     let mut queue = VecDeque::new(alloc);
-    claim_all(alloc, stripes, worker, &mut queue, plan, expand, gate);
-    offer_down(stripes, worker, &mut queue, 0, gate);
+    let mut kept = KeptScopes::new(alloc);
+    claim_all(
+        alloc, stripes, worker, &mut queue, &mut kept, plan, expand, gate,
+    );
+    offer_down(stripes, worker, &mut queue, &mut kept, 0, gate);
 }

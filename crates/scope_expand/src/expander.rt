@@ -144,13 +144,14 @@ fn put_callers(
     Ok(())
 }
 
-/// The call path of a raw path. The scopes of the outermost callers that the path before it has too are copied.
+/// The call path of a raw path, in the memory of other scopes. The scopes of the outermost callers that the path before
+/// it has too are copied.
 fn expand_with(
-    alloc: Global,
     finder: &Finder<'_>,
     cache: &mut FoundCache,
     last: &mut LastCallers,
     raw: &RawPath,
+    mut scopes: Vec<Scope>,
 ) -> Result<ScopePath, Memory>
     requires found { FoundFits finder.now cache.old.kept.items }
     requires callers { CallersFit finder.now last.old.callers.items last.old.scopes.items }
@@ -163,8 +164,9 @@ fn expand_with(
     };
     let others = last.share(callers);
     let shared = last.scopes();
+    scopes.clear();
     // room: `1 + shared.len() + 2 * (others.len() + 1)`, the root, the shared scopes, and the least of each other frame
-    let mut scopes = Vec::with_capacity(alloc, 1 + shared.len() + 2 * (others.len() + 1))?;
+    scopes.reserve(1 + shared.len() + 2 * (others.len() + 1))?;
     scopes.push(Scope::Root(root_of(raw.end())))?;
     scopes.extend_from_slice(shared)?;
     put_callers(finder, cache, last, &mut scopes, others)?;
@@ -227,12 +229,15 @@ impl<'a> Expand for Expander<'a> {
     }
 
     fn expand(&self, memo: &mut Memo, raw: &RawPath) -> Result<ScopePath, Memory> {
-        expand_with(
-            self.alloc,
-            self.finder,
-            &mut memo.found,
-            &mut memo.last,
-            raw,
-        )
+        self.expand_in(memo, raw, Vec::new(self.alloc))
+    }
+
+    fn expand_in(
+        &self,
+        memo: &mut Memo,
+        raw: &RawPath,
+        scopes: Vec<Scope>,
+    ) -> Result<ScopePath, Memory> {
+        expand_with(self.finder, &mut memo.found, &mut memo.last, raw, scopes)
     }
 }

@@ -1,5 +1,6 @@
 -- Paths whose digests all differ: none is there twice.
-use Rattle.std.proofs.Common.{◌≡◌, inl, inr, ℕ, ◌==◌, Bool, true, false, List, [], ◌∷◌, map, take, drop, fold, get_or, refl, sym, ap, ap₂, subst, ◌∙◌, arith, true≢false}
+use Rattle.std.proofs.Common.{◌≡◌, inl, inr, ℕ, ◌==◌, Bool, true, false, List, [], ◌∷◌, map, take, drop, fold, reverse, get_or, refl, sym, ap, ap₂, subst, ◌∙◌, arith, true≢false}
+use Rattle.indexmap.proofs.ReorderLemmas.{map-reverse}
 use Rattle.std.specs.List.{IsDistinct}
 use Rattle.std.specs.List.Sorted.{IsPermutation, IsStrictlyIncreasing}
 use Rattle.std.proofs.lemmas.Bool.{cases_eq, eq-eqb, ne_eqb}
@@ -23,7 +24,7 @@ abbrev with_frame : ℕ → Frame → ℕ
 with_frame digest f = with_address digest f.pc
 
 abbrev digest_of : Raw → ℕ
-digest_of raw = fold with_frame (end_number raw.end) raw.frames
+digest_of raw = fold with_frame (end_number raw.end) (reverse raw.frames)
 
 abbrev digest_of_counted : Counted → ℕ
 digest_of_counted c = digest_of c.path
@@ -32,9 +33,12 @@ folds : (digest : ℕ) (pcs : List ℕ) → fold with_frame digest (map frame_at
 folds digest [] = refl
 folds digest (pc ∷ pcs) = folds (with_address digest pc) pcs
 
+folds_back : (digest : ℕ) (pcs : List ℕ) → fold with_frame digest (reverse (map frame_at pcs)) ≡ fold with_address digest (reverse pcs)
+folds_back digest pcs = ap (λ (fs : List Frame). fold with_frame digest fs) (sym (map-reverse frame_at pcs)) ∙ folds digest (reverse pcs)
+
 digests_are : (pcs : List ℕ) (paths : List ListedPath) → map digest_of_counted (listed_paths pcs paths) ≡ map (digest_at pcs) paths
 digests_are pcs [] = refl
-digests_are pcs (p ∷ paths) = ap₂ (λ (d : ℕ) (ds : List ℕ). d ∷ ds) (folds (end_number p.end) (take p.length (drop p.first pcs))) (digests_are pcs paths)
+digests_are pcs (p ∷ paths) = ap₂ (λ (d : ℕ) (ds : List ℕ). d ∷ ds) (folds_back (end_number p.end) (take p.length (drop p.first pcs))) (digests_are pcs paths)
 
 -- ---- numbers that all differ
 

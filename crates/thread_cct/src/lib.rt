@@ -17,6 +17,7 @@ mod ccts;
 mod column;
 mod dealt;
 mod digests;
+mod kept;
 mod laws;
 mod merge_plan;
 mod path_list;
@@ -27,6 +28,7 @@ mod table;
 
 pub use ccts::{Ccts, TooManyFrames};
 pub use dealt::Pieces;
+pub use kept::KeptScopes;
 pub use laws::{appended_samples_are_counted, samples_are_counted};
 pub use merge_plan::{Plan, TooManyScopes};
 pub use path_list::PathList;

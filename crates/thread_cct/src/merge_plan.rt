@@ -12,6 +12,7 @@ ghost use Rattle.std.specs.List.Sorted.{IsNonDecreasing};
 
 use crate::ccts::Ccts;
 use crate::dealt::{Pieces, deal, empty_lists};
+use crate::kept::KeptScopes;
 use hash_key::HashKey;
 use prof_bytes::{Fail, Memory};
 use scope_types::limits::MOST_SCOPES_IN_ALL;
@@ -152,11 +153,12 @@ impl<'a> Plan<'a> {
         Ok((column as u32, counted))
     }
 
-    /// The path with this number, expanded; and the memory of the frames.
+    /// The path with this number, expanded, in kept memory where there is some; and the memory of the frames.
     fn entry<E: Expand>(
         &self,
         expand: &E,
         memo: &mut E::Memo,
+        kept: &mut KeptScopes,
         number: u32,
         frames: Vec<Frame>,
     ) -> Result<(Entry, Vec<Frame>), Memory>
@@ -168,7 +170,7 @@ impl<'a> Plan<'a> {
     {
         let (column, counted) = self.path(number, frames)?;
         let Counted { path, count } = counted;
-        let scopes = expand.expand(memo, &path)?;
+        let scopes = expand.expand_in(memo, &path, kept.take())?;
         let entry = Entry {
             column,
             count,
@@ -192,12 +194,32 @@ impl<'a> Plan<'a> {
         ensures each { IfOk result (λ pieces. (stripe : ℕ) → stripe < stripe_count
             → slice_get pieces stripe ≡ Some (piece_of (expanded self.now (E.call_path expand.now)) chunk stripe)) }
     {
+        let mut kept = KeptScopes::new(alloc);
+        self.cut_in(alloc, expand, memo, &mut kept, chunk)
+    }
+
+    /// The same, with paths in kept memory where there is some.
+    pub fn cut_in<E: Expand>(
+        &self,
+        alloc: Global,
+        expand: &E,
+        memo: &mut E::Memo,
+        kept: &mut KeptScopes,
+        chunk: u32,
+    ) -> Result<Pieces, Memory>
+        requires chunk { chunk < chunks_in self.now }
+        requires memo { E.fits expand.now memo.old }
+        ensures memo { E.fits expand.now memo.new }
+        ensures pieces { IfOk result (λ pieces. pieces ≡ pieces_of (expanded self.now (E.call_path expand.now)) chunk) }
+        ensures each { IfOk result (λ pieces. (stripe : ℕ) → stripe < stripe_count
+            → slice_get pieces stripe ≡ Some (piece_of (expanded self.now (E.call_path expand.now)) chunk stripe)) }
+    {
         let paths = self.paths;
         let mut lists = empty_lists(alloc)?;
         let first = chunk * CHUNK_PATHS;
         let mut frames = Vec::new(alloc);
         for index in 0..CHUNK_PATHS.min(paths - first) {
-            let made = self.entry(expand, memo, first + index, frames)?;
+            let made = self.entry(expand, memo, kept, first + index, frames)?;
             let (entry, read) = made;
             frames = read;
             deal(&mut lists, entry)?;

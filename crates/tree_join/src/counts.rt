@@ -42,12 +42,14 @@ fn numbered_counts(alloc: Global, walkers: &[Walker]) -> Result<Vec<NodeCount>, 
     Ok(counts)
 }
 
-/// Sorts counts by node, then column.
-fn sort(counts: &mut Vec<NodeCount>)
+/// Sorts counts by node, then column. A stable sort merges runs, and counts come in few of them: each trie has the counts
+/// of a column mostly in the order of its nodes.
+fn sort(counts: &mut Vec<NodeCount>) -> Result<(), Memory>
     ensures moved { IsPermutation counts.old.items counts.new.items }
-    ensures sorted { AllPairs (λ a b. count_order b a ≢ Less) counts.new.items }
+    ensures sorted { OnOk result (AllPairs (λ a b. count_order b a ≢ Less) counts.new.items) }
 {
-    counts.sort_unstable_by_key(|c| (c.node, c.column));
+    counts.sort_by_key(|c| (c.node, c.column))?;
+    Ok(())
 }
 
 /// Whether two counts are of one node and column.
@@ -86,7 +88,7 @@ pub fn added_up(alloc: Global, counts: Vec<NodeCount>) -> Result<Vec<NodeCount>,
     ensures { IfOk result (λ sums. AreSums counts.items sums.items) }
 {
     let mut sorted = counts;
-    sort(&mut sorted);
+    sort(&mut sorted)?;
     add_up(alloc, sorted.as_slice())
 }
 

@@ -94,13 +94,40 @@ StandsInEpoch path_of columns done TooManySamples old new = AtSamples path_of ol
 StandsInEpoch path_of columns done TooManyFrames old new = AtFramesAfter path_of columns done old new
 StandsInEpoch path_of columns done TooManyScopes old new = ⊥
 
+-- the limit that the run meets after samples that were counted, or memory ran out
+abbrev pub MeetsLimit : Paths → ℕ → List ColumnRaw → Fail LiveFault → Sampling → Sampling → Type 0
+MeetsLimit path_of columns done (fails.Fault fault) old new =
+    (few_of_run columns (done ++ coming path_of old) ≡ Err fault) × StandsInEpoch path_of columns done fault old new
+MeetsLimit path_of columns done (fails.Memory memory) old new = StandsWithin path_of old new
+
 -- an epoch, after samples that were counted; or the limit that the run meets in it, or memory ran out
 abbrev pub GivesEpoch : Paths → ℕ → ℕ → List ColumnRaw → Result Epoch (Fail LiveFault) → List (List Counted)
     → Sampling → Sampling → Type 0
 GivesEpoch path_of columns most done (Ok epoch) all old new = IsEpoch path_of columns most done epoch all old new
-GivesEpoch path_of columns most done (Err (fails.Fault fault)) all old new =
-    (few_of_run columns (done ++ coming path_of old) ≡ Err fault) × StandsInEpoch path_of columns done fault old new
-GivesEpoch path_of columns most done (Err (fails.Memory memory)) all old new = StandsWithin path_of old new
+GivesEpoch path_of columns most done (Err fail) all old new = MeetsLimit path_of columns done fail old new
+
+-- ---- what remains of a run
+
+-- the samples that were left were given, and counted with all before, and the run is at its end
+pub record IsRest (path_of : Paths) (columns : ℕ) (done : List ColumnRaw) (samples : ℕ) (all : List (List Counted))
+    (old new : Sampling) : Type 0 where
+  pub given : List Sample
+  pub none : samples_to_come path_of old ≡ given
+  pub events : new.events ≡ old.events
+  pub all_are : all ≡ distinct columns (done ++ raws old given)
+  pub fits : frames_in all ≤ most_frames_in_all
+  pub samples_are : samples ≡ length given
+  pub met : new.met ≡ old.met + length given
+  pub few : new.met ≤ most_samples
+  pub count : samples_in all ≡ new.met
+  pub ended : new.machine.state ≡ (to_come old.machine).final
+  pub last : (to_come new.machine).final ≡ (to_come old.machine).final
+
+-- what remains of a run; or the limit that it meets, or memory ran out
+abbrev pub GivesRest : Paths → ℕ → List ColumnRaw → Result ℕ (Fail LiveFault) → List (List Counted) → Sampling → Sampling
+    → Type 0
+GivesRest path_of columns done (Ok samples) all old new = IsRest path_of columns done samples all old new
+GivesRest path_of columns done (Err fail) all old new = MeetsLimit path_of columns done fail old new
 
 -- ---- trees of epochs
 

@@ -1,5 +1,5 @@
 use Rattle.std.proofs.Common.{length}
-use Rattle.live_merge.proofs.Epochs.{SoFar}
+use Rattle.live_merge.proofs.EpochSoFar.{SoFar}
 use Rattle.live_merge.proofs.epoch.next_epoch.Given as goal
 
 abbrev pub invariant-loop-taken : goal.invariant-loop-taken

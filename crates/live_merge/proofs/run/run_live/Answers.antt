@@ -1,8 +1,10 @@
-use Rattle.std.proofs.Common.{◌*◌, ◌+◌, ◌<◌, ◌≤◌, [], length, Ok, Err, refl, ◌∙◌, arith}
+use Rattle.std.proofs.Common.{◌*◌, ◌+◌, ◌<◌, ◌≤◌, ◌++◌, [], length, Ok, Err, refl, ◌∙◌, arith}
 use Rattle.std.proofs.lemmas.Result.{err_from_is_err_and}
 use Rattle.scope_types.specs.Limits.{most_samples}
 use Rattle.live_merge.proofs.Epochs.{no_samples}
-use Rattle.live_merge.proofs.Running.{all_long, as_long, coming_own, count_fits, epoch_stands, fewer_left, first_epoch, first_step, give_whole, next_answer, next_gives, next_stands, next_step, own_first, whole_answer, whole_fails, whole_stands}
+use Rattle.live_merge.proofs.Running.{all_long, as_long, coming_own, count_fits, epoch_stands, fewer_left, first_epoch, first_step, give_whole, has_ended, next_answer, next_gives, next_stands, next_step, own_first, whole_answer, whole_fails, whole_stands}
+use Rattle.live_merge.specs.private.Epochs.{IsRest, raws}
+use Rattle.live_merge.proofs.Rest.{rest_answer, rest_ended, rest_fails, rest_fits, rest_gives, rest_merged, rest_stands, rest_stops}
 use Rattle.live_merge.proofs.run.run_live.Goals as goal
 
 pub next_epoch-requires-clause-own : goal.next_epoch-requires-clause-own
@@ -64,17 +66,69 @@ pub returns-in_err-tree-clause-answer : goal.returns-in_err-tree-clause-answer
 returns-in_err-tree-clause-answer g c =
     let p = err_from_is_err_and c.from_residual-in_err-tree.result c.from_residual-in_err-tree.ensures.1 in
     rw (p.1, p.2)
-    (whole_fails (g.U.Unwind.path_of c.args.unwinder.now) (g.E.Expand.call_path c.args.expand.now) (c.args.harts * c.args.events) c.args.epoch c.args.samples.now c.loop-last.samples c.loop-last.all c.loop-last.trees c.loop-last.last c.loop-last.count c.loop-last.invariant c.loop-last-test.false c.in_err-tree.field-0.0
+    (whole_fails (g.U.Unwind.path_of c.args.unwinder.now) (g.E.Expand.call_path c.args.expand.now) (c.args.harts * c.args.events) c.args.samples.now c.loop-last.samples (c.loop-last.invariant.before ++ c.loop-last.invariant.own) c.loop-last.all c.loop-last.count (has_ended (g.U.Unwind.path_of c.args.unwinder.now) (g.E.Expand.call_path c.args.expand.now) (c.args.harts * c.args.events) c.args.epoch c.args.samples.now c.loop-last.samples c.loop-last.all c.loop-last.trees c.loop-last.last c.loop-last.count c.loop-last.invariant c.loop-last-test.false) c.in_err-tree.field-0.0
     (give_whole (g.U.Unwind.path_of c.args.unwinder.now) (g.E.Expand.call_path c.args.expand.now) (c.args.harts * c.args.events) c.args.epoch c.args.samples.now c.loop-last.samples c.loop-last.all c.loop-last.trees c.loop-last.last c.loop-last.count c.loop-last.invariant (c.samples_are_counted.ensures.columns (c.args.harts * c.args.events)) (Err c.in_err-tree.field-0.0) c.in_err-tree.ensures.whole))
 
 pub returns-in_err-tree-clause-stands : goal.returns-in_err-tree-clause-stands
 returns-in_err-tree-clause-stands g c =
     let p = err_from_is_err_and c.from_residual-in_err-tree.result c.from_residual-in_err-tree.ensures.1 in
     rw (p.1, p.2)
-    (whole_stands (g.U.Unwind.path_of c.args.unwinder.now) (g.E.Expand.call_path c.args.expand.now) (c.args.harts * c.args.events) c.args.epoch c.args.samples.now c.loop-last.samples c.loop-last.all c.loop-last.trees c.loop-last.last c.loop-last.count c.loop-last.invariant c.loop-last-test.false c.in_err-tree.field-0.0
+    (whole_stands (g.U.Unwind.path_of c.args.unwinder.now) (g.E.Expand.call_path c.args.expand.now) (c.args.harts * c.args.events) c.args.samples.now c.loop-last.samples (c.loop-last.invariant.before ++ c.loop-last.invariant.own) c.loop-last.all c.loop-last.count (has_ended (g.U.Unwind.path_of c.args.unwinder.now) (g.E.Expand.call_path c.args.expand.now) (c.args.harts * c.args.events) c.args.epoch c.args.samples.now c.loop-last.samples c.loop-last.all c.loop-last.trees c.loop-last.last c.loop-last.count c.loop-last.invariant c.loop-last-test.false) c.in_err-tree.field-0.0
     (give_whole (g.U.Unwind.path_of c.args.unwinder.now) (g.E.Expand.call_path c.args.expand.now) (c.args.harts * c.args.events) c.args.epoch c.args.samples.now c.loop-last.samples c.loop-last.all c.loop-last.trees c.loop-last.last c.loop-last.count c.loop-last.invariant (c.samples_are_counted.ensures.columns (c.args.harts * c.args.events)) (Err c.in_err-tree.field-0.0) c.in_err-tree.ensures.whole))
 
 pub returns-clause-answer : goal.returns-clause-answer
 returns-clause-answer g c =
-    whole_answer (g.U.Unwind.path_of c.args.unwinder.now) (g.E.Expand.call_path c.args.expand.now) (c.args.harts * c.args.events) c.args.epoch c.args.samples.now c.loop-last.samples c.loop-last.all c.loop-last.trees c.loop-last.last c.loop-last.count c.loop-last.invariant c.loop-last-test.false c.in_ok-tree.tree (c.in_ok-tree.ensures.columns ∙ all_long (g.U.Unwind.path_of c.args.unwinder.now) (g.E.Expand.call_path c.args.expand.now) (c.args.harts * c.args.events) c.args.epoch c.args.samples.now c.loop-last.samples c.loop-last.all c.loop-last.trees c.loop-last.last c.loop-last.count c.loop-last.invariant (c.samples_are_counted.ensures.columns (c.args.harts * c.args.events)))
+    whole_answer (g.U.Unwind.path_of c.args.unwinder.now) (g.E.Expand.call_path c.args.expand.now) (c.args.harts * c.args.events) c.args.samples.now c.loop-last.samples (c.loop-last.invariant.before ++ c.loop-last.invariant.own) c.loop-last.all c.loop-last.count (has_ended (g.U.Unwind.path_of c.args.unwinder.now) (g.E.Expand.call_path c.args.expand.now) (c.args.harts * c.args.events) c.args.epoch c.args.samples.now c.loop-last.samples c.loop-last.all c.loop-last.trees c.loop-last.last c.loop-last.count c.loop-last.invariant c.loop-last-test.false) c.in_ok-tree.tree (c.in_ok-tree.ensures.columns ∙ all_long (g.U.Unwind.path_of c.args.unwinder.now) (g.E.Expand.call_path c.args.expand.now) (c.args.harts * c.args.events) c.args.epoch c.args.samples.now c.loop-last.samples c.loop-last.all c.loop-last.trees c.loop-last.last c.loop-last.count c.loop-last.invariant (c.samples_are_counted.ensures.columns (c.args.harts * c.args.events)))
     (give_whole (g.U.Unwind.path_of c.args.unwinder.now) (g.E.Expand.call_path c.args.expand.now) (c.args.harts * c.args.events) c.args.epoch c.args.samples.now c.loop-last.samples c.loop-last.all c.loop-last.trees c.loop-last.last c.loop-last.count c.loop-last.invariant (c.samples_are_counted.ensures.columns (c.args.harts * c.args.events)) (Ok c.in_ok-tree.tree) c.in_ok-tree.ensures.whole)
+
+pub count_rest-requires-clause-own : goal.count_rest-requires-clause-own
+count_rest-requires-clause-own g c = coming_own (g.U.Unwind.path_of c.args.unwinder.now) (g.E.Expand.call_path c.args.expand.now) (c.args.harts * c.args.events) c.args.epoch c.args.samples.now c.loop-last.samples c.loop-last.all c.loop-last.trees c.loop-last.last c.loop-last.count c.loop-last.invariant (c.samples_are_counted.ensures.columns (c.args.harts * c.args.events)) c.loop-last-test.true
+
+pub returns-in_err-rest-clause-answer : goal.returns-in_err-rest-clause-answer
+returns-in_err-rest-clause-answer g c =
+    let p = err_from_is_err_and c.from_residual-in_err-rest.result c.from_residual-in_err-rest.ensures.1 in
+    rw (p.1, p.2)
+    (rest_answer (g.U.Unwind.path_of c.args.unwinder.now) (g.E.Expand.call_path c.args.expand.now) (c.args.harts * c.args.events) c.args.epoch c.args.samples.now c.loop-last.samples c.loop-last.all c.loop-last.trees c.loop-last.last c.loop-last.count c.loop-last.invariant (c.samples_are_counted.ensures.columns (c.args.harts * c.args.events)) c.loop-last-test.true c.in_err-rest.field-0.0 c.count_rest.new.all c.count_rest.new.samples
+    (rest_gives (g.U.Unwind.path_of c.args.unwinder.now) (g.E.Expand.call_path c.args.expand.now) (c.args.harts * c.args.events) c.args.epoch c.args.samples.now c.loop-last.samples c.loop-last.all c.loop-last.trees c.loop-last.last c.loop-last.count c.loop-last.invariant (c.samples_are_counted.ensures.columns (c.args.harts * c.args.events)) (Err c.in_err-rest.field-0.0) c.count_rest.new.all c.count_rest.new.samples c.in_err-rest.ensures.rest))
+
+pub returns-in_err-rest-clause-stands : goal.returns-in_err-rest-clause-stands
+returns-in_err-rest-clause-stands g c =
+    let p = err_from_is_err_and c.from_residual-in_err-rest.result c.from_residual-in_err-rest.ensures.1 in
+    rw (p.1, p.2)
+    (rest_stands (g.U.Unwind.path_of c.args.unwinder.now) (g.E.Expand.call_path c.args.expand.now) (c.args.harts * c.args.events) c.args.epoch c.args.samples.now c.loop-last.samples c.loop-last.all c.loop-last.trees c.loop-last.last c.loop-last.count c.loop-last.invariant (c.samples_are_counted.ensures.columns (c.args.harts * c.args.events)) c.loop-last-test.true c.in_err-rest.field-0.0 c.count_rest.new.all c.count_rest.new.samples
+    (rest_gives (g.U.Unwind.path_of c.args.unwinder.now) (g.E.Expand.call_path c.args.expand.now) (c.args.harts * c.args.events) c.args.epoch c.args.samples.now c.loop-last.samples c.loop-last.all c.loop-last.trees c.loop-last.last c.loop-last.count c.loop-last.invariant (c.samples_are_counted.ensures.columns (c.args.harts * c.args.events)) (Err c.in_err-rest.field-0.0) c.count_rest.new.all c.count_rest.new.samples c.in_err-rest.ensures.rest))
+
+pub returns-in_err-merged-clause-answer : goal.returns-in_err-merged-clause-answer
+returns-in_err-merged-clause-answer g c =
+    let p = err_from_is_err_and c.from_residual-in_err-merged.result c.from_residual-in_err-merged.ensures.1 in
+    let rest : IsRest (g.U.Unwind.path_of c.args.unwinder.now) (c.args.harts * c.args.events) (raws c.args.samples.now (c.loop-last.invariant.before ++ c.loop-last.invariant.own)) c.in_ok-rest.rest c.count_rest.new.all c.loop-last.samples c.count_rest.new.samples =
+    (rest_gives (g.U.Unwind.path_of c.args.unwinder.now) (g.E.Expand.call_path c.args.expand.now) (c.args.harts * c.args.events) c.args.epoch c.args.samples.now c.loop-last.samples c.loop-last.all c.loop-last.trees c.loop-last.last c.loop-last.count c.loop-last.invariant (c.samples_are_counted.ensures.columns (c.args.harts * c.args.events)) (Ok c.in_ok-rest.rest) c.count_rest.new.all c.count_rest.new.samples c.in_ok-rest.ensures.rest) in
+    rw (p.1, p.2)
+    (rest_fails (g.U.Unwind.path_of c.args.unwinder.now) (g.E.Expand.call_path c.args.expand.now) (c.args.harts * c.args.events) c.args.epoch c.args.samples.now c.loop-last.samples c.loop-last.all c.loop-last.trees c.loop-last.last c.loop-last.count c.loop-last.invariant (c.samples_are_counted.ensures.columns (c.args.harts * c.args.events)) c.loop-last-test.true c.in_ok-rest.rest c.count_rest.new.all c.count_rest.new.samples rest c.requires.own c.in_err-merged.field-0.0 c.in_err-merged.ensures.whole)
+
+pub returns-in_err-merged-clause-stands : goal.returns-in_err-merged-clause-stands
+returns-in_err-merged-clause-stands g c =
+    let p = err_from_is_err_and c.from_residual-in_err-merged.result c.from_residual-in_err-merged.ensures.1 in
+    let rest : IsRest (g.U.Unwind.path_of c.args.unwinder.now) (c.args.harts * c.args.events) (raws c.args.samples.now (c.loop-last.invariant.before ++ c.loop-last.invariant.own)) c.in_ok-rest.rest c.count_rest.new.all c.loop-last.samples c.count_rest.new.samples =
+    (rest_gives (g.U.Unwind.path_of c.args.unwinder.now) (g.E.Expand.call_path c.args.expand.now) (c.args.harts * c.args.events) c.args.epoch c.args.samples.now c.loop-last.samples c.loop-last.all c.loop-last.trees c.loop-last.last c.loop-last.count c.loop-last.invariant (c.samples_are_counted.ensures.columns (c.args.harts * c.args.events)) (Ok c.in_ok-rest.rest) c.count_rest.new.all c.count_rest.new.samples c.in_ok-rest.ensures.rest) in
+    rw (p.1, p.2)
+    (rest_stops (g.U.Unwind.path_of c.args.unwinder.now) (g.E.Expand.call_path c.args.expand.now) (c.args.harts * c.args.events) c.args.epoch c.args.samples.now c.loop-last.samples c.loop-last.all c.loop-last.trees c.loop-last.last c.loop-last.count c.loop-last.invariant (c.samples_are_counted.ensures.columns (c.args.harts * c.args.events)) c.loop-last-test.true c.in_ok-rest.rest c.count_rest.new.all c.count_rest.new.samples rest c.requires.own c.in_err-merged.field-0.0 c.in_err-merged.ensures.whole)
+
+pub overflow_add-result : goal.overflow_add-result
+overflow_add-result g c =
+    let rest : IsRest (g.U.Unwind.path_of c.args.unwinder.now) (c.args.harts * c.args.events) (raws c.args.samples.now (c.loop-last.invariant.before ++ c.loop-last.invariant.own)) c.in_ok-rest.rest c.count_rest.new.all c.loop-last.samples c.count_rest.new.samples =
+    (rest_gives (g.U.Unwind.path_of c.args.unwinder.now) (g.E.Expand.call_path c.args.expand.now) (c.args.harts * c.args.events) c.args.epoch c.args.samples.now c.loop-last.samples c.loop-last.all c.loop-last.trees c.loop-last.last c.loop-last.count c.loop-last.invariant (c.samples_are_counted.ensures.columns (c.args.harts * c.args.events)) (Ok c.in_ok-rest.rest) c.count_rest.new.all c.count_rest.new.samples c.in_ok-rest.ensures.rest) in
+    let few : c.loop-last.count + c.in_ok-rest.rest ≤ most_samples = rest_fits (g.U.Unwind.path_of c.args.unwinder.now) (g.E.Expand.call_path c.args.expand.now) (c.args.harts * c.args.events) c.args.epoch c.args.samples.now c.loop-last.samples c.loop-last.all c.loop-last.trees c.loop-last.last c.loop-last.count c.loop-last.invariant (c.samples_are_counted.ensures.columns (c.args.harts * c.args.events)) c.loop-last-test.true c.in_ok-rest.rest c.count_rest.new.all c.count_rest.new.samples rest in
+    omega arith
+
+pub returns-then-paths_come_again-clause-answer : goal.returns-then-paths_come_again-clause-answer
+returns-then-paths_come_again-clause-answer g c =
+    let rest : IsRest (g.U.Unwind.path_of c.args.unwinder.now) (c.args.harts * c.args.events) (raws c.args.samples.now (c.loop-last.invariant.before ++ c.loop-last.invariant.own)) c.in_ok-rest.rest c.count_rest.new.all c.loop-last.samples c.count_rest.new.samples =
+    (rest_gives (g.U.Unwind.path_of c.args.unwinder.now) (g.E.Expand.call_path c.args.expand.now) (c.args.harts * c.args.events) c.args.epoch c.args.samples.now c.loop-last.samples c.loop-last.all c.loop-last.trees c.loop-last.last c.loop-last.count c.loop-last.invariant (c.samples_are_counted.ensures.columns (c.args.harts * c.args.events)) (Ok c.in_ok-rest.rest) c.count_rest.new.all c.count_rest.new.samples c.in_ok-rest.ensures.rest) in
+    rest_merged (g.U.Unwind.path_of c.args.unwinder.now) (g.E.Expand.call_path c.args.expand.now) (c.args.harts * c.args.events) c.args.epoch c.args.samples.now c.loop-last.samples c.loop-last.all c.loop-last.trees c.loop-last.last c.loop-last.count c.loop-last.invariant (c.samples_are_counted.ensures.columns (c.args.harts * c.args.events)) c.loop-last-test.true c.in_ok-rest.rest c.count_rest.new.all c.count_rest.new.samples rest c.requires.own c.in_ok-merged.merged c.in_ok-merged.ensures.columns c.in_ok-merged.ensures.whole
+
+pub returns-then-paths_come_again-clause-stands : goal.returns-then-paths_come_again-clause-stands
+returns-then-paths_come_again-clause-stands g c =
+    let rest : IsRest (g.U.Unwind.path_of c.args.unwinder.now) (c.args.harts * c.args.events) (raws c.args.samples.now (c.loop-last.invariant.before ++ c.loop-last.invariant.own)) c.in_ok-rest.rest c.count_rest.new.all c.loop-last.samples c.count_rest.new.samples =
+    (rest_gives (g.U.Unwind.path_of c.args.unwinder.now) (g.E.Expand.call_path c.args.expand.now) (c.args.harts * c.args.events) c.args.epoch c.args.samples.now c.loop-last.samples c.loop-last.all c.loop-last.trees c.loop-last.last c.loop-last.count c.loop-last.invariant (c.samples_are_counted.ensures.columns (c.args.harts * c.args.events)) (Ok c.in_ok-rest.rest) c.count_rest.new.all c.count_rest.new.samples c.in_ok-rest.ensures.rest) in
+    (rest_ended (g.U.Unwind.path_of c.args.unwinder.now) (g.E.Expand.call_path c.args.expand.now) (c.args.harts * c.args.events) c.args.epoch c.args.samples.now c.loop-last.samples c.loop-last.all c.loop-last.trees c.loop-last.last c.loop-last.count c.loop-last.invariant (c.samples_are_counted.ensures.columns (c.args.harts * c.args.events)) c.loop-last-test.true c.in_ok-rest.rest c.count_rest.new.all c.count_rest.new.samples rest).ended

@@ -13,7 +13,7 @@ returns-clause-path c =
     (c.root_of.ensures ∙ ap root_of c.end.ensures) refl
     (joined (Root c.root_of.result ∷ []) c.scopes-shared.result.now _ _ _ _
     (c.in_ok-extend_from_slice.ensures.items ∙ ap (λ (l : List Scope). l ++ c.scopes-shared.result.now)
-    (c.in_ok-push.ensures.items ∙ ap (λ (l : List Scope). l ++ Root c.root_of.result ∷ []) c.in_ok-scopes.ensures.items))
+    (c.in_ok-push.ensures.items ∙ ap (λ (l : List Scope). l ++ Root c.root_of.result ∷ []) (c.in_ok-reserve.ensures.items ∙ c.clear.ensures.items)))
     c.in_ok-put_callers.ensures.scopes
     (c.share-others.ensures.scopes c.args.finder.now c.requires.callers
     ∙ ap (λ (l : List Scope). l ++ caller_scopes c.args.finder.now (reverse c.share-others.result.now)) (sym c.scopes-shared.ensures)))

@@ -7,4 +7,4 @@ use Rattle.tree_join.proofs.counts.sort.Goals as goal
 pub returns-clause-sorted : goal.returns-clause-sorted
 returns-clause-sorted c =
     let key : NodeCount → ℕ × ℕ = λ x. (x.node, x.column) in
-    sorted_pairs c.sort_unstable_by_key.new.self.items (c.sort_unstable_by_key.ensures.sorted key (answers_always _ _ _ (λ f a r g called. search rules)))
+    sorted_pairs c.sort_by_key.new.self.items (c.in_ok-sort_by_key.ensures.sorted key (answers_always _ _ _ (λ f a r g called. search rules)))

@@ -3,7 +3,7 @@ use Rattle.std.proofs.lemmas.List.{length-map}
 use Rattle.thread_cct.specs.Plan.{expanded, expanded_path}
 use Rattle.thread_cct.proofs.DealtEntries.{dealt_none, dealt_length, next_dealt, all_pieces, each_piece}
 use Rattle.thread_cct.proofs.Located.{chunk_in, index_in, chunk_whole}
-use Rattle.thread_cct.proofs.merge_plan.Plan.cut.Goals as goal
+use Rattle.thread_cct.proofs.merge_plan.Plan.cut_in.Goals as goal
 
 pub overflow_mul-first : goal.overflow_mul-first
 overflow_mul-first g c = (let few = chunk_in _ _ _ c.self.inside.paths c.args.chunk c.self.invariant c.self.view_is c.requires.chunk in omega (arith, few.0))

@@ -1,7 +1,7 @@
 use Rattle.std.proofs.Common.{◌≡◌, map, take, drop}
 use Rattle.thread_cct.specs.Plan.{expanded_path}
 use Rattle.thread_cct.specs.private.Dealing.{dealt}
-use Rattle.thread_cct.proofs.merge_plan.Plan.cut.Given as goal
+use Rattle.thread_cct.proofs.merge_plan.Plan.cut_in.Given as goal
 
 abbrev pub invariant-loop-index : goal.invariant-loop-index
 invariant-loop-index g l = record {
