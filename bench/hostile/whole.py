@@ -54,7 +54,8 @@ def measured(paths, count=1):
     data = row_files.ROW_FILES["straight"]
     body = b"".join(struct.pack(f"<{3 + len(path)}I", count, 0, len(path), *path) for path in paths)
     head = b"HPCRUNM1" + words(len(data), BASE, 1, 1, len(paths))
-    return Load(["prof", "program", "measurement", "2", "stored"], {"program": data, "measurement": head + body})
+    kept = {"program": data, "measurement": head + body}
+    return Load(["prof", "program", "measurement", "2", "stored"], kept, text=True)
 
 
 def collisions(count):
@@ -79,7 +80,7 @@ def short_paths(_):
 
 def long_paths(_):
     """Paths of 512 frames that differ in the last one."""
-    return measured([(*[BASE] * 511, 4 * n) for n in range(8184)])._replace(text=True)
+    return measured([(*[BASE] * 511, 4 * n) for n in range(8184)])
 
 
 def one_caller(_):
@@ -97,7 +98,7 @@ def merged_collisions(_):
         paths = [(BASE + 4 * n, n, *COLLIDING) for n in range(share * run, share * (run + 1))]
         body = b"".join(struct.pack("<7I", 1, 0, 4, *path) for path in paths)
         kept[f"measurement{run}"] = head + words(share) + body
-    return Load(["merge", "program", "2", "stored", *kept], {"program": load.files["program"], **kept})
+    return Load(["merge", "program", "2", "stored", *kept], {"program": load.files["program"], **kept}, text=True)
 
 
 def long_trace(_):
