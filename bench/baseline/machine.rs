@@ -391,7 +391,7 @@ impl<'a> Machine<'a> {
             hart.regs[rd as usize] = value;
         }
         hart.pc = next;
-        if let Some(event) = Event::of(op, next != pc.wrapping_add(4)) {
+        if let Some(event) = Event::of(op, taken(op, a, b)) {
             hart.done[event as usize] += 1;
         }
         true
