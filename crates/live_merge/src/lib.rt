@@ -1,9 +1,10 @@
-//! A run that is merged while it goes on: its samples are merged epoch by epoch, and the trees of the epochs added.
+//! A run that is merged while it goes on, or at its end: its samples are merged epoch by epoch, and the trees of the
+//! epochs added.
 //!
 //! It promises the sum of two calling context trees: the nodes of either, each once and in preorder, and counts that
 //! add. And it promises of a run, whatever the length of an epoch, the tree of all its samples, or the first limit that
 //! the whole run meets. It does not promise that both go on at once. Below lie `tree_join`, `merge_crew`,
-//! `sample_clock`, `thread_cct`, `tree_types`, `scope_types` and `prof_bytes`.
+//! `sample_clock`, `thread_cct`, `tree_types`, `scope_types`, `hash_key` and `prof_bytes`.
 #![tactic(auto)]
 
 mod add;

@@ -95,10 +95,20 @@ impl<'a> Space<'a> {
         ensures registers { IfSome result HasRegisters }
     {
         let Some((code, index)) = decoded_at(&self.decoded, self.likely, &self.memory, pc) else {
-            let word = self.memory.peek(pc)?;
-            return Some(decode(word));
+            return self.inst_apart(pc);
         };
         Some(*word_at(code.items.as_slice(), index))
+    }
+
+    /// The same of an instruction whose word is not kept decoded.
+    #[cold]
+    #[inline(never)]
+    fn inst_apart(&self, pc: u32) -> Option<Inst>
+        ensures inst { result ≡ option_map decoded (fetched_at self.now pc) }
+        ensures registers { IfSome result HasRegisters }
+    {
+        let word = self.memory.peek(pc)?;
+        Some(decode(word))
     }
 
     /// Does the instruction at pc, if its word is kept and it retires, and says whether it did; else nothing has changed.

@@ -286,6 +286,18 @@ impl<'a> Samples<'a> {
         Ok(Advance::Unsampled)
     }
 
+    /// Carries out instructions of which none is sampled, or says which one is next that is sampled if it retires.
+    #[inline(always)]
+    fn go_on(&mut self) -> Result<Advance, Memory>
+        ensures { (path_of : Paths) → Advances path_of result self.old self.new }
+    {
+        if self.is_alone {
+            self.go_on_alone()
+        } else {
+            self.go_on_counting()
+        }
+    }
+
     /// Counts a sample, and says whether there may be so many.
     #[inline(always)]
     fn count_met(&mut self) -> bool
@@ -331,13 +343,12 @@ impl<'a> Samples<'a> {
         Ok(Some(coming.sample(coming.first_place(), path)))
     }
 
-    /// The next sample, where retired is the only event.
+    /// The next sample of an instruction that was not carried out yet.
     #[inline(always)]
-    fn next_alone<U: Unwind>(
+    fn next_sampled<U: Unwind>(
         &mut self,
         unwinder: &U,
     ) -> Result<Option<Sample>, Fail<TooManySamples>>
-        requires alone { is_retired_alone self.old.events ≡ true }
         requires pending { self.old.pending ≡ [] }
         requires few { self.old.met ≤ most_samples }
         ensures answer { AnswersNext (U.path_of unwinder.now) result self.old self.new }
@@ -345,33 +356,7 @@ impl<'a> Samples<'a> {
         ensures last { (to_come self.new.machine).final ≡ (to_come self.old.machine).final }
     {
         loop {
-            match self.go_on_alone()? {
-                Advance::End => return Ok(None),
-                Advance::Unsampled => {}
-                Advance::Due(coming) => {
-                    if let Some(path) = self.sample(&coming, unwinder)? {
-                        return self.give_first(&coming, path);
-                    }
-                }
-            }
-        }
-    }
-
-    /// The next sample, where other events are sampled.
-    #[inline(always)]
-    fn next_counting<U: Unwind>(
-        &mut self,
-        unwinder: &U,
-    ) -> Result<Option<Sample>, Fail<TooManySamples>>
-        requires alone { is_retired_alone self.old.events ≡ false }
-        requires pending { self.old.pending ≡ [] }
-        requires few { self.old.met ≤ most_samples }
-        ensures answer { AnswersNext (U.path_of unwinder.now) result self.old self.new }
-        ensures reached { Reaches (U.path_of unwinder.now) result self.old self.new }
-        ensures last { (to_come self.new.machine).final ≡ (to_come self.old.machine).final }
-    {
-        loop {
-            match self.go_on_counting()? {
+            match self.go_on()? {
                 Advance::End => return Ok(None),
                 Advance::Unsampled => {}
                 Advance::Due(coming) => {
@@ -399,10 +384,6 @@ impl<'a> Samples<'a> {
         if self.pending.is_some() {
             return self.give_pending();
         }
-        if self.is_alone {
-            self.next_alone(unwinder)
-        } else {
-            self.next_counting(unwinder)
-        }
+        self.next_sampled(unwinder)
     }
 }
