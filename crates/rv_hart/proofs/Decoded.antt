@@ -1,9 +1,12 @@
 -- What is kept decoded is what a fetch gives.
-use Rattle.std.proofs.Common.{◌≡◌, ◌≢◌, true, ℕ, suc, ◌+◌, ◌*◌, ◌%◌, ◌^◌, ◌<◌, ◌≤◌, ◌&&◌, inl, inr, Bool, List, [], ◌∷◌, ◌++◌, cond, length, take, drop, get_or, find, Option, Some, None, IfSome, Bor, option_map, refl, sym, ap, ap₂, subst, ◌∙◌, arith}
+use Rattle.std.proofs.Common.{◌≡◌, ◌≢◌, true, ℕ, suc, ◌+◌, ◌*◌, ◌%◌, ◌^◌, ◌<◌, ◌≤◌, ◌&&◌, inl, inr, ◌⊎◌, Bool, List, [], ◌∷◌, cond, length, take, drop, get_or, Option, Some, None, IfSome, Bor, option_map, refl, sym, ap, ap₂, subst, ◌∙◌, arith}
 use Rattle.std.specs.Option.{option_copied}
-use Rattle.std.proofs.lemmas.Bool.{eq-eqb, le-leb}
-use Rattle.std.proofs.lemmas.Bool.Decides.{leb_tells}
-use Rattle.std.proofs.lemmas.List.{get_or_append_left, get_or-append-add, length-append}
+use Rattle.std.proofs.lemmas.Bool.{cases_eq, eq-eqb, le-leb}
+use Rattle.std.proofs.lemmas.List.{get_or-replicate, get_or-set_other, get_or-set_same, length-replicate, length-set}
+use Rattle.std.proofs.lemmas.List.Elements.{All-get_or}
+use Rattle.std.proofs.lemmas.Option.{get_or_from_slice_get, slice_get_within}
+use Rattle.std.specs.Prelude.{replicate, slice_get}
+use Rattle.std.proofs.Math.ListN.{set}
 use Rattle.prof_bytes.specs.Number.{number_in}
 use Rattle.elf_image.specs.declared.part.Segment.{Segment}
 use Rattle.elf_image.specs.declared.elf.TheConstants.{PF_W}
@@ -12,9 +15,8 @@ use Rattle.rv_table.specs.declared.inst.Op.TheVariants as ops
 use Rattle.rv_table.specs.Table.{HasRegisters, decoded}
 use Rattle.rv_memory.specs.AddressSpace.{AddressSpace, byte_at, fetched_at, grants, is_fetched_from, memory_number, region_at, IsRegionOf}
 use Rattle.rv_memory.proofs.Contiguous.{spelled, part-get, part-length}
-use Rattle.rv_memory.proofs.Regions.{find-all}
 use Rattle.rv_hart.specs.declared.decoded_code.DecodedCode.{DecodedCode}
-use Rattle.rv_hart.specs.private.Decoding.{end, IsFixedCode, IsDecodedAt, AreDecodedAt, IsCode, AreCode, IsWordAt, HasWordAt, HasInstructionAt}
+use Rattle.rv_hart.specs.private.Decoding.{end, IsFixedCode, IsDecodedAt, IsKeptAt, IsCode, AreCode, IsWordAt, HasWordAt, HasInstructionAt}
 use Rattle.rv_hart.specs.private.Indexing.{word_address}
 
 -- the word among bytes of memory
@@ -33,8 +35,8 @@ held regions region at own low high = own at (ap₂ (λ (a b : Bool). a && b) (l
 
 -- a word of a region that may be executed and not written
 pub word-decoded : (memory : AddressSpace) (region : Segment) (base k : ℕ) (bytes : List ℕ) (inst : Inst) → IsRegionOf memory.regions region → IsFixedCode region base → base % 4 ≡ 0 → base + length bytes ≤ region.end → ((i : ℕ) → i < length bytes → get_or bytes i 0 ≡ byte_at memory (base + i)) → 4 * k + 4 ≤ length bytes
-    → inst ≡ decoded (number_in 4 (take 4 (drop (4 * k) bytes))) → HasRegisters inst → IsDecodedAt memory (base + 4 * k) inst
-word-decoded memory region base k bytes inst own code aligned inside each within is registers =
+    → inst ≡ decoded (number_in 4 (take 4 (drop (4 * k) bytes))) → IsDecodedAt memory (base + 4 * k) inst
+word-decoded memory region base k bytes inst own code aligned inside each within is =
     let at : ℕ = base + 4 * k in
     let start = code.low in
     let top = code.top in
@@ -52,68 +54,64 @@ word-decoded memory region base k bytes inst own code aligned inside each within
           ap (λ (t : Bool). option_map decoded (cond t (Some (memory_number memory at 4)) None)) (ap₂ (λ (a b : Bool). a && b) (eq-eqb (at % 4) 0 divided) fetched)
           ∙ ap (λ (n : ℕ). Some (decoded n)) (sym (word-number memory base k bytes each within))
           ∙ ap (λ (i : Inst). Some i) (sym is);
-      registers = registers;
     }
 
--- one word more
-pub decoded-more : (memory : AddressSpace) (base : ℕ) (items : List Inst) (inst : Inst) → AreDecodedAt memory base items → IsDecodedAt memory (base + 4 * length items) inst → AreDecodedAt memory base (items ++ inst ∷ [])
-decoded-more memory base items inst all here k d few =
-    elim (leb_tells (suc k) (length items)) [
-      | inl before ↦
-          subst (λ (i : Inst). IsDecodedAt memory (base + 4 * k) i) (sym (get_or_append_left items (inst ∷ []) d k before.1)) (all k d before.1)
-      | inr last ↦ at-end (let e : k ≡ length items = omega (arith, last.1, few, length-append items (inst ∷ [])) in e)
-    ]
-  where
-    at-end : k ≡ length items → IsDecodedAt memory (base + 4 * k) (get_or (items ++ inst ∷ []) k d)
-    at-end same =
-        subst (λ (j : ℕ). IsDecodedAt memory (base + 4 * j) (get_or (items ++ inst ∷ []) j d)) (sym same)
-        (subst (λ (i : Inst). IsDecodedAt memory (base + 4 * length items) i) (sym (ap (λ (j : ℕ). get_or (items ++ inst ∷ []) j d) (let e : length items ≡ length items + 0 = omega arith in e) ∙ get_or-append-add items (inst ∷ []) 0 d)) here)
-
--- what is found is what was kept
-pub found-code : (memory : AddressSpace) (p : DecodedCode → Bool) (codes : List DecodedCode) (found : Option (Bor DecodedCode)) → AreCode memory codes → option_copied found ≡ find p codes → IfSome found (λ code. IsCode memory code.now.base code.now.items.items)
-found-code memory p codes None all is = tt
-found-code memory p codes (Some code) all is = find-all (λ c. IsCode memory c.base c.items.items) p codes code.now all (sym is)
-
--- at each index is a word of its region, or no instruction
-is-end : (memory : AddressSpace) (base : ℕ) (items : List Inst) (index : ℕ) → IsWordAt memory base items index end
-is-end memory base items index =
+-- no instruction at an index
+none-at : (memory : AddressSpace) (base count index : ℕ) → IsKeptAt memory base count index end
+none-at memory base count index =
     record {
       registers = record { rd = omega arith; rs1 = omega arith; rs2 = omega arith };
       followed = λ other. absurd (other refl);
-      word = λ other. absurd (other refl);
+      decoded = λ other. absurd (other refl);
     }
 
+-- words of which none is decoded yet
+pub none-decoded : (memory : AddressSpace) (base count : ℕ) → base % 4 ≡ 0 → IsCode memory base (replicate count end)
+none-decoded memory base count aligned = record {
+  aligned = aligned;
+  kept = λ k d few.
+      subst (IsKeptAt memory base (length (replicate count end)) k)
+      (sym (get_or-replicate count k end d (subst (λ (n : ℕ). k < n) (length-replicate count end) few)))
+      (none-at memory base (length (replicate count end)) k);
+}
+
+-- one more word is decoded
+pub more-decoded : (memory : AddressSpace) (base index : ℕ) (items : List Inst) (inst : Inst) → IsCode memory base items → index + 1 < length items → HasRegisters inst → IsDecodedAt memory (base + 4 * index) inst → IsCode memory base (set items index inst)
+more-decoded memory base index items inst code within registers here = record {
+  aligned = code.aligned;
+  kept = λ k d few.
+      subst (λ (n : ℕ). IsKeptAt memory base n k (get_or (set items index inst) k d)) (sym (length-set items index inst))
+      (at k d (subst (λ (n : ℕ). k < n) (length-set items index inst) few) (cases_eq k index));
+}
+  where
+    at : (k : ℕ) (d : Inst) → k < length items → (k ≡ index) ⊎ (k ≢ index) → IsKeptAt memory base (length items) k (get_or (set items index inst) k d)
+    at k d few (inl same) =
+        subst (λ (j : ℕ). IsKeptAt memory base (length items) j (get_or (set items index inst) j d)) (sym same)
+        (subst (IsKeptAt memory base (length items) index) (sym (get_or-set_same items index inst d (omega (arith, within))))
+        record { registers = registers; followed = λ _. within; decoded = λ _. here })
+    at k d few (inr other) =
+        subst (IsKeptAt memory base (length items) k) (sym (get_or-set_other items index k inst d other)) (code.kept k d few)
+
+-- what is found is what was kept
+pub found-code : (memory : AddressSpace) (codes : List DecodedCode) (i : ℕ) (found : Option (Bor DecodedCode)) → AreCode memory codes → option_copied found ≡ slice_get codes i → IfSome found (λ code. IsCode memory code.now.base code.now.items.items)
+found-code memory codes i None all is = tt
+found-code memory codes i (Some code) all is =
+    subst (λ (c : DecodedCode). IsCode memory c.base c.items.items) (get_or_from_slice_get codes i code.now code.now (sym is))
+    (All-get_or (λ c. IsCode memory c.base c.items.items) codes i code.now (slice_get_within codes i code.now (sym is)) all)
+
+-- at each index is a word of its region, or no instruction
 pub words-at : (memory : AddressSpace) (base : ℕ) (items : List Inst) → IsCode memory base items → (index : ℕ) → index < length items → (d : Inst) → IsWordAt memory base items index (get_or items index d)
 words-at memory base items code index within d =
-    subst (λ (xs : List Inst). IsWordAt memory base xs index (get_or xs index d)) (sym code.ended)
-    (elim (leb_tells (suc index) (length words)) [
-      | inl before ↦ word before.1
-      | inr last ↦ behind (let l = last.1 in let w : index < length (words ++ end ∷ []) = subst (λ (xs : List Inst). index < length xs) code.ended within in omega (arith, l, w, long))
-    ])
-  where
-    words : List Inst
-    words = code.words
-
-    long : length (words ++ end ∷ []) ≡ length words + 1
-    long = length-append words (end ∷ [])
-
-    word : index < length words → IsWordAt memory base (words ++ end ∷ []) index (get_or (words ++ end ∷ []) index d)
-    word before =
-        let kept : IsDecodedAt memory (base + 4 * index) (get_or words index d) = code.decoded index d before in
-        let low = kept.low in
-        let here : word_address base index ≡ base + 4 * index = omega (arith, low) in
-        subst (λ (i : Inst). IsWordAt memory base (words ++ end ∷ []) index i) (sym (get_or_append_left words (end ∷ []) d index before))
-        record {
-          registers = kept.registers;
-          followed = λ _. omega (arith, long, before);
-          word = λ _. ap (λ (a : ℕ). option_map decoded (fetched_at memory a)) here ∙ kept.word;
-        }
-
-    behind : index ≡ length words → IsWordAt memory base (words ++ end ∷ []) index (get_or (words ++ end ∷ []) index d)
-    behind same =
-        subst (λ (i : Inst). IsWordAt memory base (words ++ end ∷ []) index i)
-        (sym (ap (λ (j : ℕ). get_or (words ++ end ∷ []) j d) (let e : index ≡ length words + 0 = omega (arith, same) in e) ∙ get_or-append-add words (end ∷ []) 0 d))
-        (is-end memory base (words ++ end ∷ []) index)
+    let kept : IsKeptAt memory base (length items) index (get_or items index d) = code.kept index d within in
+    record {
+      registers = kept.registers;
+      followed = kept.followed;
+      word = λ other.
+          let here : IsDecodedAt memory (base + 4 * index) (get_or items index d) = kept.decoded other in
+          let low = here.low in
+          let at : word_address base index ≡ base + 4 * index = omega (arith, low) in
+          ap (λ (a : ℕ). option_map decoded (fetched_at memory a)) at ∙ here.word;
+    }
 
 -- a word at an index
 pub word-here : (memory : AddressSpace) (base : ℕ) (items : List Inst) (index : ℕ) (inst : Inst) → HasWordAt memory base items index → ((d : Inst) → inst ≡ get_or items index d) → IsWordAt memory base items index inst

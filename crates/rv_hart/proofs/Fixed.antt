@@ -119,15 +119,16 @@ decoded-kept m n at inst kept is = record {
   low = is.low;
   fixed = λ i few. ap (λ (r : List Segment). may PF_W r (at + i)) kept.regions ∙ is.fixed i few;
   word = ap (option_map decoded) (fetched-kept m n at kept is.low is.fixed) ∙ is.word;
-  registers = is.registers;
 }
 
 pub code-kept : (m n : AddressSpace) (base : ℕ) (items : List Inst) → KeepsFixed m n → IsCode m base items → IsCode n base items
 code-kept m n base items kept is = record {
   aligned = is.aligned;
-  words = is.words;
-  ended = is.ended;
-  decoded = λ k d few. decoded-kept m n (base + 4 * k) _ kept (is.decoded k d few);
+  kept = λ k d few. record {
+    registers = (is.kept k d few).registers;
+    followed = (is.kept k d few).followed;
+    decoded = λ other. decoded-kept m n (base + 4 * k) _ kept ((is.kept k d few).decoded other);
+  };
 }
 
 pub codes-kept : (m n : AddressSpace) (codes : List DecodedCode) → KeepsFixed m n → AreCode m codes → AreCode n codes

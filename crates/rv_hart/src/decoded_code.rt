@@ -1,12 +1,13 @@
-//! Words that are decoded once: those of regions that may be executed and not written, which no store changes.
-ghost use Rattle.std.specs.Prelude.{◌≡◌, ◌≢◌, ◌+◌, ◌*◌, ◌<◌, ◌≤◌, ◌%◌, true, false, IfOk, IfSome, length};
+//! Words that are decoded once, where they are first asked for: those of regions that may be executed and not written,
+//! which no store changes.
+ghost use Rattle.std.specs.Prelude.{◌≡◌, ◌≢◌, ◌+◌, ◌*◌, ◌<◌, ◌≤◌, ◌%◌, ◌^◌, true, false, IfOk, IfSome, length};
 ghost use Rattle.std.specs.Prelude.{take, drop};
 ghost use Rattle.std.specs.List.{slice_index_or};
 ghost use Rattle.elf_image.specs.Image.{segment_range};
 ghost use Rattle.prof_bytes.specs.Number.{number_in};
 ghost use Rattle.rv_memory.specs.AddressSpace.{IsRegionOf};
 ghost use Rattle.rv_table.specs.declared.inst.Inst.{Inst};
-ghost use Rattle.rv_hart.specs.private.Decoding.{AreDecodedAt, IsCode, AreCode, IsFixedCode, IsInstruction, IsFoundAt};
+ghost use Rattle.rv_hart.specs.private.Decoding.{IsCode, AreCode, IsFixedCode, IsInstruction, IsFoundAt};
 ghost use Rattle.rv_hart.specs.private.Decoding.{HasInstructionAt};
 ghost use Rattle.rv_hart.specs.private.Indexing.{word_address};
 
@@ -20,23 +21,42 @@ use std::alloc::Global;
 /// How many words of a program are kept decoded, at most: 16 MiB, for 8 MiB of code.
 const MOST_WORDS: usize = 1 << 21;
 
-/// The first words of a region, decoded: one for each four addresses from `base` on.
+/// How many words are decoded at once.
+const BLOCK_WORDS: usize = 1 << 8;
+
+/// A word for each four addresses of a region from `base` on: decoded, or no instruction where that was not asked for yet.
+/// The last one is no instruction.
 #[derive(Drop)]
 pub(crate) struct DecodedCode {
-    pub(crate) region: Segment,
     pub(crate) base: u32,
     pub(crate) items: Vec<Inst>,
 }
 
-impl HasRange for DecodedCode {
-    ghost range_of = { λ code. segment_range code.region };
+/// A region, and the index of its code.
+#[derive(Clone, Copy, Debug)]
+struct CodePlace {
+    region: Segment,
+    index: usize,
+}
+
+impl HasRange for CodePlace {
+    ghost range_of = { λ place. segment_range place.region };
 
     fn range(&self) -> AddressRange {
         self.region.range()
     }
 }
 
-/// What follows the last word: no instruction, so that no run goes past it.
+/// The code of each region that may be executed and not written. Words are decoded where they are first asked for.
+#[derive(Drop)]
+pub(crate) struct KeptCode {
+    codes: Vec<DecodedCode>,
+    places: RangeTable<CodePlace>,
+    /// The index of the longest code. It is asked first for an instruction.
+    likely: usize,
+}
+
+/// No instruction: no run goes past it.
 pub(crate) const END: Inst = Inst {
     op: Op::Illegal,
     rd: 0,
@@ -62,34 +82,19 @@ fn has_fixed_code(region: &Segment, base: u32) -> bool
     region.is_executable() && !region.is_writable() && start <= base && base <= end
 }
 
-/// The words of the region that the file has from an address on, at most a given number, decoded. There are none of a
-/// region that may be written. There is room for one after them.
-fn decoded_words(
-    alloc: Global,
-    memory: &ProgramMemory<'_>,
-    region: &Segment,
-    base: u32,
-    most: usize,
-) -> Result<Vec<Inst>, Memory>
-    requires own { IsRegionOf memory.now.regions region.now }
-    requires base { base % 4 ≡ 0 }
-    ensures { IfOk result (λ words. AreDecodedAt memory.now base words.items) }
+/// How many words the file has of the region from an address on; none of a region that may be written.
+fn word_count(memory: &ProgramMemory<'_>, region: &Segment, base: u32) -> usize
+    requires { IsRegionOf memory.now.regions region.now }
+    ensures { result ≤ 2 ^ 30 }
 {
     if !has_fixed_code(region, base) {
-        return Ok(Vec::new(alloc));
+        return 0;
     }
-    let bytes = memory.file_bytes(region, base);
-    let count = (bytes.len() / 4).min(most);
-    // room: `count + 1`, the words that are decoded, and the one after them
-    let mut words = Vec::with_capacity(alloc, count + 1)?;
-    for index in 0..count {
-        words.push_reserved(decode(word_in(bytes, index)));
-    }
-    Ok(words)
+    memory.file_bytes(region, base).len() / 4
 }
 
-/// The words of the region, at most a given number, decoded.
-fn decoded_region(
+/// The code of a region, at most a given number of words, of which none is decoded yet.
+fn undecoded(
     alloc: Global,
     memory: &ProgramMemory<'_>,
     region: &Segment,
@@ -99,23 +104,21 @@ fn decoded_region(
     ensures { IfOk result (λ code. IsCode memory.now code.base code.items.items) }
 {
     let base = region.start.saturating_add(3) / 4 * 4;
-    let mut items = decoded_words(alloc, memory, region, base, most)?;
-    items.push(END)?;
-    Ok(DecodedCode {
-        region: *region,
-        base,
-        items,
-    })
+    let count = word_count(memory, region, base).min(most);
+    // room: `count + 1`, the words of the file, and the one after them
+    let items = vec![in alloc; END; count + 1]?;
+    Ok(DecodedCode { base, items })
 }
 
-/// Appends the words of the region that holds the address, if one does, at most a given number, and says how many more
-/// there may be.
+/// Appends the code of the region that holds the address, if one does, at most a given number of words, and says how
+/// many more there may be.
 fn add_region(
     alloc: Global,
     memory: &ProgramMemory<'_>,
     at: u32,
     most: usize,
     codes: &mut Vec<DecodedCode>,
+    places: &mut Vec<CodePlace>,
 ) -> Result<usize, Memory>
     requires { AreCode memory.now codes.old.items }
     ensures { IfOk result (λ _. AreCode memory.now codes.new.items) }
@@ -123,42 +126,90 @@ fn add_region(
     let Some(region) = memory.region_at(at) else {
         return Ok(most);
     };
-    let code = decoded_region(alloc, memory, &region, most)?;
+    let code = undecoded(alloc, memory, &region, most)?;
     let left = most.saturating_sub(code.items.len());
+    places.push(CodePlace {
+        region,
+        index: codes.len(),
+    })?;
     codes.push(code)?;
     Ok(left)
 }
 
-/// The words of all regions that may be executed and not written, decoded, up to the most that are kept.
-pub(crate) fn decoded_regions(
-    alloc: Global,
-    memory: &ProgramMemory<'_>,
-) -> Result<Vec<DecodedCode>, Memory>
-    ensures { IfOk result (λ codes. AreCode memory.now codes.items) }
-{
-    let mut codes = Vec::new(alloc);
-    let mut room = MOST_WORDS;
-    for region in memory.regions() {
-        room = add_region(alloc, memory, region.start, room, &mut codes)?;
+impl KeptCode {
+    /// The code of all regions, up to the most words that are kept.
+    pub(crate) fn of(alloc: Global, memory: &ProgramMemory<'_>) -> Result<KeptCode, Memory>
+        ensures { IfOk result (λ kept. AreCode memory.now kept.codes.items) }
+    {
+        let mut codes = Vec::new(alloc);
+        let mut places = Vec::new(alloc);
+        let mut room = MOST_WORDS;
+        for region in memory.regions() {
+            room = add_region(alloc, memory, region.start, room, &mut codes, &mut places)?;
+        }
+        let likely = longest(&codes);
+        Ok(KeptCode {
+            codes,
+            places: RangeTable::of(alloc, places)?,
+            likely,
+        })
     }
-    Ok(codes)
 }
 
-/// What is kept of the region that holds the address.
-fn code_at<'c>(
-    codes: &'c RangeTable<DecodedCode>,
+/// Decodes a block of the words of a region, about the one at an index, where that one may be kept.
+fn decode_block(
     memory: &ProgramMemory<'_>,
-    pc: u32,
-) -> Option<&'c DecodedCode>
-    requires { AreCode memory.now codes.now }
+    region: &Segment,
+    base: u32,
+    index: usize,
+    items: &mut Vec<Inst>,
+)
+    requires own { IsRegionOf memory.now.regions region.now }
+    requires code { IsCode memory.now base items.old.items }
+    ensures { IsCode memory.now base items.new.items }
+{
+    if !has_fixed_code(region, base) {
+        return;
+    }
+    let bytes = memory.file_bytes(region, base);
+    let count = (bytes.len() / 4).min(items.len().saturating_sub(1));
+    if index >= count {
+        return;
+    }
+    let low = index / BLOCK_WORDS * BLOCK_WORDS;
+    for at in low..count.min(low + BLOCK_WORDS) {
+        items[at] = decode(word_in(bytes, at));
+    }
+}
+
+/// Decodes the words about an address, where they may be kept.
+pub(crate) fn decode_about(kept: &mut KeptCode, memory: &ProgramMemory<'_>, pc: u32)
+    requires { AreCode memory.now kept.old.codes.items }
+    ensures { AreCode memory.now kept.new.codes.items }
+{
+    let (Some(place), Some(region)) = (kept.places.first(pc), memory.region_at(pc)) else {
+        return;
+    };
+    let at = place.index;
+    if at < kept.codes.len() {
+        let code = &mut kept.codes[at];
+        let index = (pc.wrapping_sub(code.base) / 4) as usize;
+        decode_block(memory, &region, code.base, index, &mut code.items);
+    }
+}
+
+/// The code of the region that holds the address.
+fn code_at<'c>(kept: &'c KeptCode, memory: &ProgramMemory<'_>, pc: u32) -> Option<&'c DecodedCode>
+    requires { AreCode memory.now kept.now.codes.items }
     ensures { IfSome result (λ code. IsCode memory.now code.now.base code.now.items.items) }
 {
     let _ = memory;
-    codes.first(pc)
+    let place = kept.places.first(pc)?;
+    kept.codes.get(place.index)
 }
 
-/// The index of the region of which most words are kept.
-pub(crate) fn longest(codes: &[DecodedCode]) -> usize {
+/// The index of the longest code.
+fn longest(codes: &[DecodedCode]) -> usize {
     let mut most = 0;
     let mut longest = 0;
     for (index, code) in codes.iter().enumerate() {
@@ -217,7 +268,7 @@ fn is_instruction(items: &[Inst], index: usize) -> bool
     }
 }
 
-/// The index of the word at pc, where it is kept and an instruction.
+/// The index of the word at pc, where it is decoded and an instruction.
 #[inline(always)]
 fn decoded_index(code: &DecodedCode, memory: &ProgramMemory<'_>, pc: u32) -> Option<usize>
     requires { IsCode memory.now code.now.base code.now.items.items }
@@ -235,36 +286,35 @@ fn decoded_index(code: &DecodedCode, memory: &ProgramMemory<'_>, pc: u32) -> Opt
     Some(index)
 }
 
-/// What is kept of the region that holds the address, and the index of its word, where that is an instruction.
+/// The code of the region that holds the address, and the index of its word, where that is decoded and an instruction.
 #[inline(never)]
 fn decoded_by_address<'c>(
-    codes: &'c RangeTable<DecodedCode>,
+    kept: &'c KeptCode,
     memory: &ProgramMemory<'_>,
     pc: u32,
 ) -> Option<(&'c DecodedCode, usize)>
-    requires { AreCode memory.now codes.now }
+    requires { AreCode memory.now kept.now.codes.items }
     ensures { IfSome result (λ found. IsFoundAt memory.now found.0.now found.1 pc) }
 {
-    let code = code_at(codes, memory, pc)?;
+    let code = code_at(kept, memory, pc)?;
     let first = decoded_index(code, memory, pc)?;
     Some((code, first))
 }
 
-/// The same. The region with this index is asked first.
+/// The same. The longest code is asked first.
 #[inline(always)]
 pub(crate) fn decoded_at<'c>(
-    codes: &'c RangeTable<DecodedCode>,
-    likely: usize,
+    kept: &'c KeptCode,
     memory: &ProgramMemory<'_>,
     pc: u32,
 ) -> Option<(&'c DecodedCode, usize)>
-    requires { AreCode memory.now codes.now }
+    requires { AreCode memory.now kept.now.codes.items }
     ensures { IfSome result (λ found. IsFoundAt memory.now found.0.now found.1 pc) }
 {
-    if let Some(code) = codes.items().get(likely) {
+    if let Some(code) = kept.codes.get(kept.likely) {
         if let Some(first) = decoded_index(code, memory, pc) {
             return Some((code, first));
         }
     }
-    decoded_by_address(codes, memory, pc)
+    decoded_by_address(kept, memory, pc)
 }

@@ -12,13 +12,11 @@ ghost use Rattle.rv_hart.specs.Stepping.{state_of};
 ghost use Rattle.rv_hart.specs.private.Counting.{HaltsAt};
 
 use crate::counting::{Counter, Halt};
-use crate::decoded_code::{
-    DecodedCode, END, decoded_at, decoded_regions, is_illegal, longest, word_at,
-};
+use crate::decoded_code::{END, KeptCode, decode_about, decoded_at, is_illegal, word_at};
 use crate::decoded_run::{run_decoded, step_decoded};
 use crate::hart::Hart;
 use crate::outcome::{Cause, Stepped};
-use elf_image::{Image, RangeTable};
+use elf_image::Image;
 use prof_bytes::Memory;
 use rv_memory::ProgramMemory;
 use rv_table::{Inst, decode};
@@ -28,13 +26,11 @@ use std::marker::Model;
 
 /// The memory of a program that runs, as its harts use it: its segments, and a stack for each hart (`stack_of`).
 /// Contracts see it whole, with a byte for each address. The words of segments that may be executed and not written are
-/// decoded at the start, 2^21 of them at most.
+/// kept decoded, 2^21 of them at most, from when one of their block was first carried out.
 #[derive(Drop)]
 pub struct Space<'a> {
     memory: ProgramMemory<'a>,
-    decoded: RangeTable<DecodedCode>,
-    /// The index of the region of which most words are decoded. It is asked first for an instruction.
-    likely: usize,
+    decoded: KeptCode,
 }
 
 impl<'a> Model for Space<'a> {
@@ -46,7 +42,7 @@ impl<'a> Model for Space<'a> {
 
     ghost view = { λ space. space.memory };
 
-    ghost invariant = { λ space. AreCode space.memory space.decoded };
+    ghost invariant = { λ space. AreCode space.memory space.decoded.codes.items };
 }
 
 impl<'a> Space<'a> {
@@ -56,13 +52,8 @@ impl<'a> Space<'a> {
         ensures { IfOk result (λ space. space ≡ first_memory image.now harts) }
     {
         let memory = ProgramMemory::of(alloc, image, harts)?;
-        let decoded = decoded_regions(alloc, &memory)?;
-        let likely = longest(&decoded);
-        Ok(Space {
-            memory,
-            decoded: RangeTable::of(alloc, decoded)?,
-            likely,
-        })
+        let decoded = KeptCode::of(alloc, &memory)?;
+        Ok(Space { memory, decoded })
     }
 
     /// The number in 1, 2 or 4 bytes from `at` on, the lowest first; `None` where one of these may not
@@ -94,7 +85,7 @@ impl<'a> Space<'a> {
         ensures inst { result ≡ option_map decoded (fetched_at self.now pc) }
         ensures registers { IfSome result HasRegisters }
     {
-        let Some((code, index)) = decoded_at(&self.decoded, self.likely, &self.memory, pc) else {
+        let Some((code, index)) = decoded_at(&self.decoded, &self.memory, pc) else {
             return self.inst_apart(pc);
         };
         Some(*word_at(code.items.as_slice(), index))
@@ -117,7 +108,7 @@ impl<'a> Space<'a> {
         ensures ran { result ≡ true → Ran 1 (state_of hart.old self.old) (state_of hart.new self.new) }
         ensures same { result ≡ false → state_of hart.new self.new ≡ state_of hart.old self.old }
     {
-        let found = decoded_at(&self.decoded, self.likely, &self.memory, hart.pc);
+        let found = decoded_at(&self.decoded, &self.memory, hart.pc);
         let Some((code, first)) = found else {
             return false;
         };
@@ -151,7 +142,7 @@ impl<'a> Space<'a> {
         ensures why { IfErr result.1 (λ halt. HaltsAt halt (C.left counter.new) (state_of hart.new self.new)) }
         ensures short { OnErr result.1 (result.0 < most) }
     {
-        let found = decoded_at(&self.decoded, self.likely, &self.memory, hart.pc);
+        let found = decoded_at(&self.decoded, &self.memory, hart.pc);
         let Some((code, first)) = found else {
             return self.run_fetched(hart, counter);
         };
@@ -166,7 +157,7 @@ impl<'a> Space<'a> {
         )
     }
 
-    /// Does the instruction at pc, whose word is not kept.
+    /// Does the instruction at pc, whose word is not kept decoded; from then on it is, if it may be.
     #[inline(never)]
     fn run_fetched<C: Counter>(
         &mut self,
@@ -191,6 +182,7 @@ impl<'a> Space<'a> {
         if is_illegal(&inst) {
             return (0, Ok(Stepped::Trap(Cause::Illegal)));
         }
+        decode_about(&mut self.decoded, &self.memory, hart.pc);
         run_decoded(&[inst, END], hart.pc, 0, hart, &mut self.memory, counter, 1)
     }
 }

@@ -1,5 +1,5 @@
 -- Words that are kept decoded. They lie in regions that may be executed and not written, so that no store changes them.
-use Rattle.std.specs.Prelude.{◌≡◌, ◌≢◌, ℕ, ◌+◌, ◌*◌, ◌%◌, ◌^◌, ◌<◌, ◌≤◌, true, false, List, [], ◌∷◌, ◌++◌, length, All}
+use Rattle.std.specs.Prelude.{◌≡◌, ◌≢◌, ℕ, ◌+◌, ◌*◌, ◌%◌, ◌^◌, ◌<◌, ◌≤◌, true, false, List, length, All}
 use Rattle.std.specs.Prelude.{Some, option_map}
 use Rattle.std.specs.List.{slice_index_or}
 use Rattle.elf_image.specs.declared.part.Segment.{Segment}
@@ -29,23 +29,22 @@ pub record IsDecodedAt (memory : AddressSpace) (at : ℕ) (inst : Inst) : Type 0
   pub low : at + 4 ≤ 2 ^ 32
   pub fixed : (i : ℕ) → i < 4 → may PF_W memory.regions (at + i) ≡ false
   pub word : option_map decoded (fetched_at memory at) ≡ Some inst
-  pub registers : HasRegisters inst
-
--- the words from an address on, one for each four addresses
-abbrev pub AreDecodedAt : AddressSpace → ℕ → List Inst → Type 0
-AreDecodedAt memory base items =
-    (k : ℕ) (d : Inst) → k < length items → IsDecodedAt memory (base + 4 * k) (slice_index_or items k d)
 
 -- no instruction
 abbrev pub end : Inst
 end = record { op = ops.Illegal; rd = 0; rs1 = 0; rs2 = 0; imm = 0 }
 
--- decoded words from an address on, and after them no instruction
+-- what is kept at an index of so many words from an address on: no instruction, or the word that is fetched there,
+-- decoded, which is not the last
+pub record IsKeptAt (memory : AddressSpace) (base count index : ℕ) (inst : Inst) : Type 0 where
+  pub registers : HasRegisters inst
+  pub followed : inst.op ≢ ops.Illegal → index + 1 < count
+  pub decoded : inst.op ≢ ops.Illegal → IsDecodedAt memory (base + 4 * index) inst
+
+-- words from an address on, one for each four addresses
 pub record IsCode (memory : AddressSpace) (base : ℕ) (items : List Inst) : Type 0 where
   pub aligned : base % 4 ≡ 0
-  pub words : List Inst
-  pub ended : items ≡ words ++ end ∷ []
-  pub decoded : AreDecodedAt memory base words
+  pub kept : (k : ℕ) (d : Inst) → k < length items → IsKeptAt memory base (length items) k (slice_index_or items k d)
 
 -- what is kept of several regions
 abbrev pub AreCode : AddressSpace → List DecodedCode → Type 0

@@ -17,13 +17,13 @@ returns-in_default-clause-ran g c =
     (ran-none (state_of c.args.hart.now c.args.self.now))
 
 pub invariant_of-self : goal.invariant_of-self
-invariant_of-self g c = subst (λ (memory : AddressSpace). AreCode memory c.self.inside.decoded) (sym c.fetch.ensures.same) c.self.invariant
+invariant_of-self g c = subst (λ (memory : AddressSpace). AreCode memory c.self.inside.decoded.codes.items) (sym c.fetch.ensures.same) c.self.invariant
 
 pub invariant_of-self-2 : goal.invariant_of-self-2
 invariant_of-self-2 g c =
-    codes-kept c.fetch.new.self c.run_decoded.new.memory c.self.inside.decoded
+    codes-kept c.fetch.new.self c.run_decoded.new.memory c.decode_about.new.kept.codes.items
     (ran-fixed c.run_decoded.result.0 (state_of c.args.hart.now c.fetch.new.self) (state_of c.run_decoded.new.hart c.run_decoded.new.memory) c.run_decoded.ensures.ran)
-    (subst (λ (memory : AddressSpace). AreCode memory c.self.inside.decoded) (sym c.fetch.ensures.same) c.self.invariant)
+    c.decode_about.ensures
 
 pub returns-then-is_illegal-clause-ran : goal.returns-then-is_illegal-clause-ran
 returns-then-is_illegal-clause-ran g c =

@@ -1,5 +1,5 @@
 use Rattle.rv_hart.specs.private.Decoding.{AreCode}
-use Rattle.rv_hart.proofs.decoded_code.decoded_regions.Given as goal
+use Rattle.rv_hart.proofs.decoded_code.KeptCode.of.Given as goal
 
 abbrev pub invariant-loop-region : goal.invariant-loop-region
 invariant-loop-region l = AreCode l.memory l.codes.items
