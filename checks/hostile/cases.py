@@ -39,7 +39,8 @@ def sections_of(data):
 
 
 def schedules(random):
-    return made_code.schedule(random) if random.random() < 0.97 else made_code.bent_schedule(random)
+    """Schedules for programs that may not end."""
+    return made_code.schedule(random) if random.random() < 0.97 else made_code.bounded(made_code.bent_schedule(random))
 
 
 def workers(random):
@@ -124,9 +125,9 @@ def random_code(random):
 
 
 def bent_schedules(random):
-    data = ROW_FILES[random.choice(("calling", "spinning", "straight", "inlined"))]
+    name = random.choice(("calling", "spinning", "straight", "inlined"))
     text = made_code.bent_schedule(random) if random.random() < 0.7 else bent(random, made_code.schedule(random, 3000))
-    return on_program(random, "schedules", data, text)
+    return on_program(random, "schedules", ROW_FILES[name], made_code.bounded(text) if name == "spinning" else text)
 
 
 # ---- kept files

@@ -1,4 +1,6 @@
 """Random code: words that are mostly instructions, procedures that call one another, and schedules."""
+import re
+
 from row_files import BASE, words
 
 REGISTERS = (0, 1, 2, 5, 6, 8, 9, 10, 10, 11, 12, 17)
@@ -141,6 +143,45 @@ def schedule(random, most=60000):
         if random.random() < 0.05:
             lines.append(random.choice(("", "#", "# 0 5")))
     return ("\n".join(lines) + random.choice(("\n", ""))).encode()
+
+
+# The instructions that a schedule may run which a program doesn't end early.
+MOST_RUN = 20_000_000
+
+
+def slices(text):
+    """The lines of a schedule that is accepted, each with the instructions of its slice, of other lines 0; of a refused
+    one none."""
+    lines, harts, found = text.removesuffix(b"\n").split(b"\n"), None, []
+    for line in lines:
+        head, space, number = line.partition(b" ")
+        is_number = re.fullmatch(rb"0|[1-9][0-9]{0,9}", number) is not None
+        if line[:1] in (b"", b"#"):
+            found.append((line, 0))
+        elif harts is None:
+            if head != b"harts" or not is_number or not 1 <= int(number) <= 64:
+                return []
+            harts = int(number)
+            found.append((line, 0))
+        elif is_number and re.fullmatch(rb"0|[1-9][0-9]?", head) and int(head) < harts and int(number) > 0:
+            found.append((line, int(number)))
+        else:
+            return []
+    return found if harts is not None and sum(count for _, count in found) < 1 << 32 else []
+
+
+def bounded(text, most=MOST_RUN):
+    """A schedule whose slices are so many instructions together at most, or that is refused: the later are less."""
+    found = slices(text)
+    if sum(count for _, count in found) <= most:
+        return text
+    lines = []
+    for line, count in found:
+        runs = min(count, most)
+        most -= runs
+        if runs or not count:
+            lines.append(line if runs == count else line.split(b" ")[0] + b" %d" % runs)
+    return b"\n".join(lines)
 
 
 BAD_LINES = (b"harts 0", b"harts 65", b"harts 01", b"harts  1", b"harts 1 ", b"0  1", b"1", b"0 0", b"0 4294967295",

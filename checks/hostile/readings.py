@@ -1,7 +1,8 @@
-"""The second readings that checks/fuzz compares with: bench/baseline/hpc.rs of the commands that it has, and plain
-Python of databases."""
+"""The second readings that checks/fuzz compares with: bench/baseline of the commands that it has, by its server, and
+plain Python of databases."""
 import importlib.machinery
 import importlib.util
+import os
 import pathlib
 import re
 import shutil
@@ -10,7 +11,7 @@ import subprocess
 from answers import Answer
 
 TOP = pathlib.Path(__file__).resolve().parents[2]
-SOURCE = TOP / "bench" / "baseline" / "hpc.rs"
+SOURCE = TOP / "bench" / "baseline" / "serve.rs"
 # What `view` and `stats` are asked for, and the commands that the baseline answers.
 TABLES = {"view": ("top", "callers", "flat"), "stats": ("exclusive", "frame", "inclusive")}
 EVENTS = ("retired", "loads", "stores", "taken")
@@ -35,7 +36,7 @@ def script(name):
 
 
 def built(folder):
-    """The baseline with the program's commands, or None where there is no rustc."""
+    """The server of the baseline with the program's commands, or None where there is no rustc."""
     if not shutil.which("rustc"):
         return None
     program = pathlib.Path(folder) / "reading"
@@ -54,9 +55,10 @@ class Readings:
         is_form = 3 <= len(words) <= 4 and words[1] and words[2] in TABLES[words[0]]
         if not is_form or len(words) == 4 and words[3] not in EVENTS:
             return Answer(2, b"", self.usage, files)
-        if words[1] not in files:
+        name = os.path.normpath(words[1])
+        if name not in files:
             return Answer(4, b"", b"hpc: device read\n", files)
-        status, text, line = self.views.expected(files[words[1]], words[2], words[3] if len(words) == 4 else None)
+        status, text, line = self.views.expected(files[name], words[2], words[3] if len(words) == 4 else None)
         return Answer(status, text.encode(errors="surrogateescape"), line.encode(), files)
 
     def expected(self, runner, case):
@@ -70,8 +72,7 @@ class Readings:
             return Answer(2, b"", self.usage, case.files)
         if self.baseline is None:
             return None
-        answer, _ = runner.run(self.baseline, case.words, case.files)
-        return answer
+        return runner.ask(self.baseline, case.words, case.files)
 
 
 def is_allowed(answer, case, stored):
