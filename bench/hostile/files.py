@@ -25,8 +25,8 @@ def uleb(number):
     return bytes(out)
 
 
-def declaration(code, attributes=(), children=False):
-    out = uleb(code) + uleb(DW_TAG_subprogram) + bytes([children])
+def declaration(code, attributes=(), children=False, tag=DW_TAG_subprogram):
+    out = uleb(code) + uleb(tag) + bytes([children])
     for attribute, form, *constant in attributes:
         out += uleb(attribute) + uleb(form)
         if form == DW_FORM_implicit_const:

@@ -14,36 +14,53 @@ def words(*numbers):
 
 def strings(names):
     """The bytes of a string section, and the place of each name."""
-    data, places = b"\0", []
+    data, places = bytearray(b"\0"), []
     for name in names:
         places.append(len(data))
         data += name + b"\0"
-    return data, places
+    return bytes(data), places
+
+
+def symbols_of(functions):
+    """The bytes of the symbols of functions (name, address, size), and of their names."""
+    texts, places = strings([name for name, _, _ in functions])
+    symbols = [words(place, address, size) + struct.pack("<BBH", 0x12, 0, ABSOLUTE)
+               for place, (_, address, size) in zip(places, functions)]
+    return b"".join(symbols), texts
 
 
 def program(segments, sections=(), functions=(), entry=BASE):
     """A file of segments (address, bytes, size in memory, flags), sections (name, bytes, address) and functions (name,
     address, size)."""
-    at = 52 + 32 * len(segments)
-    heads, body = b"", b""
+    if sections or functions:
+        return with_symbols(segments, sections, *symbols_of(functions), entry)
+    heads, body = loaded(segments)
+    return header(entry, len(segments), 0, 0) + heads + body
+
+
+def loaded(segments):
+    """The headers of segments, and the bytes that follow them."""
+    at, heads, body = 52 + 32 * len(segments), bytearray(), bytearray()
     for address, content, size, flags in segments:
         heads += words(PT_LOAD, at + len(body), address, address, len(content), size, flags, 4)
         body += content
-    if not sections and not functions:
-        return header(entry, len(segments), 0, 0) + heads + body
-    texts, places = strings([name for name, _, _ in functions])
-    symbols = bytes(16)
-    for place, (_, address, size) in zip(places, functions):
-        symbols += words(place, address, size) + struct.pack("<BBH", 0x12, 0, ABSOLUTE)
+    return bytes(heads), bytes(body)
+
+
+def with_symbols(segments, sections, symbols, texts, entry=BASE):
+    """A file of segments and sections, as above, with the bytes of symbols and of their names."""
+    heads, body = loaded(segments)
+    at, body = 52 + len(heads), bytearray(body)
     own = [(name, content, SHT_PROGBITS, where, 0, 0) for name, content, where in sections]
-    own += [(b".symtab", symbols, SHT_SYMTAB, 0, len(own) + 2, 16), (b".strtab", texts, SHT_STRTAB, 0, 0, 0)]
+    own.append((b".symtab", bytes(16) + symbols, SHT_SYMTAB, 0, len(own) + 2, 16))
+    own.append((b".strtab", texts, SHT_STRTAB, 0, 0, 0))
     names, places = strings([name for name, *_ in own] + [b".shstrtab"])
     own.append((b".shstrtab", names, SHT_STRTAB, 0, 0, 0))
     table = bytes(40)
     for place, (_, content, kind, where, link, size) in zip(places, own):
         table += words(place, kind, 0, where, at + len(body), len(content), link, int(kind == SHT_SYMTAB), 0, size)
         body += content
-    return header(entry, len(segments), at + len(body), len(own) + 1) + heads + body + table
+    return header(entry, len(segments), at + len(body), len(own) + 1) + heads + bytes(body) + table
 
 
 def header(entry, segments, sections_at, sections):

@@ -1,0 +1,203 @@
+"""Debug information and line tables that load one part of the built program each."""
+import struct
+
+import files
+from files import declaration, uleb, unit
+from loads import ascending, elf, rows, running, structure
+from row_files import BASE, words
+
+DW_TAG_inlined_subroutine = 0x1D
+DW_AT_name, DW_AT_stmt_list, DW_AT_low_pc, DW_AT_high_pc = 0x03, 0x10, 0x11, 0x12
+DW_AT_ranges, DW_AT_call_file, DW_AT_call_line = 0x55, 0x58, 0x59
+DW_FORM_addr, DW_FORM_data2, DW_FORM_data4, DW_FORM_string = 0x01, 0x05, 0x06, 0x08
+DW_FORM_data1, DW_FORM_strp, DW_FORM_sec_offset = 0x0B, 0x0E, 0x17
+DW_LNCT_path, DW_LNCT_directory_index = 0x01, 0x02
+DW_RLE_offset_pair, DW_RLE_start_length = 0x04, 0x07
+
+
+RANGE = [(DW_AT_low_pc, DW_FORM_addr), (DW_AT_high_pc, DW_FORM_data4)]
+WORD_RANGE = [(DW_AT_low_pc, DW_FORM_addr), (DW_AT_high_pc, DW_FORM_data1)]
+
+
+# ---- debug information
+
+def of_kind(kind, count):
+    """The sections of files.py in a program."""
+    return structure(elf(**dict(zip(("info", "abbrev", "rnglists"), files.KINDS[kind](count)))))
+
+
+def entries(count):
+    return of_kind("entries", count)
+
+
+def codes(count):
+    return of_kind("codes", count)
+
+
+def empty_values(count):
+    return of_kind("empty_values", count)
+
+
+def names(count):
+    return of_kind("names", count)
+
+
+def tables(count):
+    return of_kind("tables", count)
+
+
+def long_numbers(count):
+    return of_kind("long_numbers", count)
+
+
+def overlapping_tables(count):
+    """Units each of whose abbreviation tables begins a byte after the one before, within declarations of five bytes."""
+    table = b"".join(uleb(1) + uleb(1) + b"\1" + b"\0\0" for _ in range(200_000)) + bytes(9)
+    return structure(elf(info=b"".join(unit(b"", n) for n in range(count)), abbrev=table))._replace(tables=True)
+
+
+def repeated_codes(count):
+    """Units whose tables are suffixes of one table that declares each code twice."""
+    table = b"".join(declaration(1 + n % 100_000) for n in range(200_000)) + b"\0"
+    step = len(declaration(1))
+    return structure(elf(info=b"".join(unit(b"", step * n) for n in range(count)), abbrev=table))._replace(tables=True)
+
+
+def deep_entries(count):
+    """Entries each below the one before."""
+    return structure(elf(info=unit(b"\1" * count), abbrev=declaration(1, children=True) + b"\0"))
+
+
+def subprograms(count):
+    """Subprograms of one address each, that all hold the same word of code, and nothing else does."""
+    body = (b"\1" + words(BASE) + b"\4") * count
+    return structure(elf(info=unit(body), abbrev=declaration(1, WORD_RANGE) + b"\0"))
+
+
+def nested_ranges(count):
+    """Subprograms of which each holds the one before, so that at most addresses all are open."""
+    size = 4 * count
+    body = rows(count, b"\1", ascending(BASE, 1, count), ascending(2 * size, -2, count))
+    return structure(elf(size=2 * size + 8, info=unit(body), abbrev=declaration(1, RANGE) + b"\0"))
+
+
+def nested_subprograms(count):
+    """Subprograms of which each is a child of the one before, with a part of its range."""
+    body = rows(count, b"\1", ascending(BASE, 1, count), ascending(8 * count, -2, count))
+    return structure(elf(size=8 * count + 84, info=unit(body), abbrev=declaration(1, RANGE, True) + b"\0"))
+
+
+def nested_inlines(count, depth=60):
+    """Calls that are inlined so deep into one subprogram, the innermost of a word each."""
+    table = (declaration(1, RANGE, True) + declaration(2, RANGE, True, DW_TAG_inlined_subroutine)
+             + declaration(3, WORD_RANGE, False, DW_TAG_inlined_subroutine) + b"\0")
+    outer = b"".join(bytes([code]) + words(BASE, 4 * count) for code in [1] + [2] * (depth - 1))
+    body = outer + rows(count, b"\3", ascending(BASE, 4, count), b"\4")
+    return running(elf(size=max(4 * count, 84), info=unit(body), abbrev=table), command=("profile",))
+
+
+def long_name(count, length=20_000_000):
+    """Subprograms without ranges that all name one long text."""
+    table = declaration(1, [(DW_AT_name, DW_FORM_strp)]) + b"\0"
+    return structure(elf(info=unit(b"\1\0\0\0\0" * count), abbrev=table, text=b"n" * length + b"\0"))
+
+
+def listed(count, ranges):
+    """Inlined subroutines outside of subprograms that all name one list of ranges, a word each from the base on."""
+    table = declaration(1, [(DW_AT_ranges, DW_FORM_sec_offset)], False, DW_TAG_inlined_subroutine) + b"\0"
+    return structure(elf(info=unit(b"\1\0\0\0\0" * count), abbrev=table, rnglists=ranges + b"\0"))
+
+
+def shared_ranges(count):
+    """Items that all name one list of ranges, of which few have an address of code."""
+    few = b"".join(bytes([DW_RLE_start_length]) + words(BASE + 8 * place) + b"\4" for place in range(4))
+    return listed(count, bytes([DW_RLE_offset_pair, 0, 0]) * 1_000_000 + few)
+
+
+def kept_ranges(count):
+    """Items that all name one list of as many ranges of code."""
+    return listed(count, (bytes([DW_RLE_start_length]) + words(BASE) + b"\4") * count)
+
+
+# ---- line tables
+
+NO_NAMES = b"\0" + uleb(0)
+
+
+def line_header(directories=NO_NAMES, names=NO_NAMES):
+    """The fields of a header, with lists of directories and of files."""
+    fields = bytes([1, 1, 1, 0xFB, 14, 13]) + bytes([0, 1, 1, 1, 1, 0, 0, 0, 1, 0, 0, 1])
+    return fields + directories + names
+
+
+def one_row(at):
+    """The program of a row with an address."""
+    return b"\0\5\2" + words(at) + b"\1"
+
+
+# The end of a sequence, a word behind its last row.
+SEQUENCE_END = b"\2\4\0\1\1"
+
+
+def line_table(body, program, behind=0):
+    """A table whose program has so many bytes before it that are not the header's."""
+    head = struct.pack("<HBBI", 5, 4, 0, len(body) + behind)
+    return struct.pack("<I", len(head) + len(body) + behind + len(program)) + head + body
+
+
+def lined(body, program, **how):
+    """A program with one line table."""
+    info, abbrev = lined_units([0])
+    return elf(info=info, abbrev=abbrev, line=line_table(body, program) + program, **how)
+
+
+def lined_units(offsets):
+    row = declaration(1, [(DW_AT_stmt_list, DW_FORM_sec_offset)]) + b"\0"
+    return b"".join(unit(b"\1" + words(offset)) for offset in offsets), row
+
+
+def directories(count):
+    """A line table of directories of no bytes, as many as its bytes allow."""
+    return structure(lined(line_header(b"\0" + uleb(count)), b"\x06" * count))
+
+
+def files_of_a_byte(count):
+    """A line table of files whose names are empty."""
+    names = b"\1" + uleb(DW_LNCT_path) + uleb(DW_FORM_string) + uleb(count)
+    return structure(lined(line_header(NO_NAMES, names + bytes(count)), b""))
+
+
+def long_path(count, length=10_000_000):
+    """Files in a directory whose name is long, and calls that are inlined in each of them."""
+    directories = b"\1" + uleb(DW_LNCT_path) + uleb(DW_FORM_string) + uleb(1) + b"d" * length + b"\0"
+    formats = b"\2" + uleb(DW_LNCT_path) + uleb(DW_FORM_string) + uleb(DW_LNCT_directory_index) + uleb(DW_FORM_data1)
+    body = line_header(directories, formats + uleb(count) + b"f\0\0" * count)
+    call = [*WORD_RANGE, (DW_AT_call_file, DW_FORM_data4), (DW_AT_call_line, DW_FORM_data1)]
+    table = (declaration(1, [(DW_AT_stmt_list, DW_FORM_sec_offset), *WORD_RANGE], True)
+             + declaration(2, call, False, DW_TAG_inlined_subroutine) + b"\0")
+    calls = rows(count, b"\2" + words(BASE) + b"\4", ascending(0, 1, count), b"\1")
+    info = unit(b"\1" + words(0, BASE) + b"\4" + calls)
+    return structure(elf(info=info, abbrev=table, line=line_table(body, b"")))
+
+
+def shared_program(count, length=500_000):
+    """Line tables whose programs are the same bytes, behind the last of them."""
+    body = line_header()
+    program = one_row(BASE) + b"\1" * (length - 1) + SEQUENCE_END
+    step = len(line_table(body, program))
+    line = b"".join(line_table(body, program, step * (count - 1 - n)) for n in range(count)) + program
+    info, abbrev = lined_units([step * n for n in range(count)])
+    return structure(elf(info=info, abbrev=abbrev, line=line))._replace(tables=True)
+
+
+def sequences(count):
+    """Sequences of one row each."""
+    return structure(lined(line_header(), (one_row(BASE) + SEQUENCE_END) * count))
+
+
+def falling_rows(count):
+    """A sequence whose addresses fall behind its first row, and a run that samples each of them."""
+    falling = rows(count, b"\0\5\2", ascending(BASE + 4 * count - 4, -4, count), b"\1")
+    program = one_row(BASE) + falling + one_row(BASE + 4 * count - 4) + SEQUENCE_END
+    data = lined(line_header(), program, code=[0x00150513] * count)
+    return running(data, f"harts 1\n0 {count}\n", ("profile",))
