@@ -109,7 +109,7 @@ class Runner:
         self.files, self.server = Files(inside), None
         self.streams = [os.open(os.path.join(self.folder, name), os.O_RDWR | os.O_CREAT | os.O_APPEND, 0o600)
                         for name in ("out", "err")]
-        self.nothing = os.open(os.devnull, os.O_RDONLY)
+        self.nothing, self.environment = os.open(os.devnull, os.O_RDONLY), dict(os.environb)
         signal.signal(signal.SIGALRM, _ring)
 
     def close(self):
@@ -126,7 +126,8 @@ class Runner:
         for file in self.streams:
             os.truncate(file, 0)
         places = [(os.POSIX_SPAWN_DUP2, file, place) for place, file in enumerate((self.nothing, *self.streams))]
-        pid = os.posix_spawn(program, [program, *words], os.environ, file_actions=places, setsigdef=(signal.SIGPIPE,))
+        pid = os.posix_spawn(program, [program, *words], self.environment, file_actions=places,
+                             setsigdef=(signal.SIGPIPE,))
         limited(pid)
         status, taken = waited(pid)
         return Answer(status, *map(content, self.streams), self.files.found()), taken
