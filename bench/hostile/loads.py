@@ -158,11 +158,21 @@ def symbols(count):
     return running(data)
 
 
+def of_symbols(count, code):
+    """A program of code, with a function symbol for each word of code."""
+    table = rows(count, words(1), ascending(BASE, 4, count), words(4), ABSOLUTE_FUNCTION)
+    segment = (BASE, words(*code), max(4 * count, 4 * len(code)), READ_EXECUTE)
+    return row_files.with_symbols([segment], (), table, b"\0f\0")
+
+
 def symbol_procedures(count):
     """Function symbols of a word each, without debug information."""
-    table = rows(count, words(1), ascending(BASE, 4, count), words(4), ABSOLUTE_FUNCTION)
-    segment = (BASE, words(*STRAIGHT), max(4 * count, 84), READ_EXECUTE)
-    return structure(row_files.with_symbols([segment], (), table, b"\0f\0"))
+    return structure(of_symbols(count, STRAIGHT))
+
+
+def sampled_symbols(count):
+    """The same, and a run that samples each of them."""
+    return running(of_symbols(count, [0x00150513] * count), f"harts 1\n0 {count}\n", ("profile",))
 
 
 def slices(count):
