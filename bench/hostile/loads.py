@@ -189,25 +189,30 @@ def touched_pages(_):
     return running(data, "harts 1\n0 4000000\n", period="4294967295")._replace(guests=True)
 
 
-def written_output(_):
-    """A program that writes its whole output many times."""
-    code = [0x00100513, 0x000205B7, 0x00100637, 0x04000893, 0x00000073, 0xFEDFF06F]
+def written(count, upper):
+    """A program that so many times asks for the upper bits' bytes of its memory to be written."""
+    code = [0x00100513, 0x000205B7, upper | 0x637, 0x04000893, 0x00000073, 0xFEDFF06F]
     content = words(*code)
-    data = row_files.program([(BASE, content, len(content), READ_EXECUTE), (0x20000, b"", 0x200000, 6)])
-    return running(data, "harts 1\n0 100000\n", period="4294967295")._replace(guests=True)
-
-
-def readable_output(count):
-    """A program that asks so many times for 4 GB of its memory to be written."""
-    code = [0x00100513, 0x000205B7, 0xEFFE0637, 0x04000893, 0x00000073, 0xFEDFF06F]
-    content = words(*code)
-    data = row_files.program([(BASE, content, len(content), READ_EXECUTE), (0x20000, b"", 0xEFFE0000, 6)])
+    data = row_files.program([(BASE, content, len(content), READ_EXECUTE), (0x20000, b"", upper, 6)])
     return running(data, f"harts 1\n0 {len(code) * count}\n", period="4294967295")
 
 
+def written_output(count):
+    """A program that writes its whole output many times."""
+    return written(count, MIB)._replace(guests=True)
+
+
+def readable_output(count):
+    """A program that asks for 4 GB of its memory to be written."""
+    return written(count, 0xEFFE0000)
+
+
 def samples(_):
-    """A sample of each of the most instructions, with the call paths of a procedure that calls itself."""
-    return running(row_files.ROW_FILES["looping"], "harts 1\n0 1048576\n", ("profile",))
+    """A sample of each of the most instructions, below 500 calls of a procedure that calls itself, and then waits."""
+    code = list(row_files.CALLING)
+    code[0], code[6] = 0x1F400513, 0x00050063
+    data = row_files.of_code(code, [(b".debug_frame", row_files.CALLING_FRAMES)], row_files.CALLING_FUNCTIONS)
+    return running(data, f"harts 1\n0 {MOST_SAMPLES}\n", ("profile",))
 
 
 def call_frames(kind):

@@ -25,8 +25,8 @@ KINDS = {
     "segments": (loads.segments, 65_000), "symbols": (loads.symbols, 3_000_000),
     "symbol_procedures": (loads.symbol_procedures, 3_000_000), "sampled_symbols": (loads.sampled_symbols, 1_000_000),
     "slices": (loads.slices, 700_000),
-    "touched_pages": (loads.touched_pages, 0), "written_output": (loads.written_output, 0),
-    "readable_output": (loads.readable_output, 12), "samples": (loads.samples, 0),
+    "touched_pages": (loads.touched_pages, 0), "written_output": (loads.written_output, 16_000),
+    "readable_output": (loads.readable_output, 2), "samples": (loads.samples, 0),
     "wide_database": (loads.wide_database, 1_000_000),
     **{f"frames_{kind}": (loads.call_frames(kind), 0) for kind in frames.KINDS},
 }
