@@ -6,11 +6,12 @@ from files import declaration, uleb, unit
 from loads import ascending, elf, rows, running, structure
 from row_files import BASE, words
 
-DW_TAG_inlined_subroutine = 0x1D
+DW_TAG_compile_unit, DW_TAG_inlined_subroutine, DW_TAG_variable = 0x11, 0x1D, 0x34
 DW_AT_name, DW_AT_stmt_list, DW_AT_low_pc, DW_AT_high_pc = 0x03, 0x10, 0x11, 0x12
 DW_AT_ranges, DW_AT_call_file, DW_AT_call_line = 0x55, 0x58, 0x59
 DW_FORM_addr, DW_FORM_data2, DW_FORM_data4, DW_FORM_string = 0x01, 0x05, 0x06, 0x08
-DW_FORM_data1, DW_FORM_strp, DW_FORM_sec_offset = 0x0B, 0x0E, 0x17
+DW_FORM_data1, DW_FORM_strp, DW_FORM_udata, DW_FORM_sec_offset = 0x0B, 0x0E, 0x0F, 0x17
+DW_FORM_flag_present, DW_FORM_line_strp = 0x19, 0x1F
 DW_LNCT_path, DW_LNCT_directory_index = 0x01, 0x02
 DW_RLE_offset_pair, DW_RLE_start_length = 0x04, 0x07
 
@@ -102,6 +103,23 @@ def long_name(count, length=20_000_000):
     return structure(elf(info=unit(b"\1\0\0\0\0" * count), abbrev=table, text=b"n" * length + b"\0"))
 
 
+def flags(count):
+    """So many attributes without bytes."""
+    return [(0x2000 + n % 0x1000, DW_FORM_flag_present) for n in range(count)]
+
+
+def late_attributes(count, attributes=20_000):
+    """Subprograms whose names come after many attributes without bytes."""
+    table = declaration(1, [*flags(attributes), (DW_AT_name, DW_FORM_string)]) + b"\0"
+    return structure(elf(info=unit(b"\1\0" * count), abbrev=table))
+
+
+def unsized_values(count, attributes=20_000):
+    """Variables with many attributes without bytes, and one value whose size its own bytes say."""
+    table = declaration(1, [*flags(attributes), (0x2000, DW_FORM_udata)], False, DW_TAG_variable) + b"\0"
+    return structure(elf(info=unit(b"\1\0" * count), abbrev=table))
+
+
 def listed(count, ranges):
     """Inlined subroutines outside of subprograms that all name one list of ranges, a word each from the base on."""
     table = declaration(1, [(DW_AT_ranges, DW_FORM_sec_offset)], False, DW_TAG_inlined_subroutine) + b"\0"
@@ -167,6 +185,12 @@ def files_of_a_byte(count):
     return structure(lined(line_header(NO_NAMES, names + bytes(count)), b""))
 
 
+def long_file_names(count, length=20_000_000):
+    """A line table of files that all have one long text as their name."""
+    names = b"\1" + uleb(DW_LNCT_path) + uleb(DW_FORM_line_strp) + uleb(count) + bytes(4 * count)
+    return structure(lined(line_header(NO_NAMES, names), b"", line_text=b"n" * length + b"\0"))
+
+
 def long_path(count, length=10_000_000):
     """Files in a directory whose name is long, and calls that are inlined in each of them."""
     directories = b"\1" + uleb(DW_LNCT_path) + uleb(DW_FORM_string) + uleb(1) + b"d" * length + b"\0"
@@ -193,6 +217,19 @@ def shared_program(count, length=500_000):
 def sequences(count):
     """Sequences of one row each."""
     return structure(lined(line_header(), (one_row(BASE) + SEQUENCE_END) * count))
+
+
+def copied_rows(count):
+    """A sequence of rows of a byte each."""
+    return structure(lined(line_header(), one_row(BASE) + b"\1" * count + SEQUENCE_END))
+
+
+def units(count):
+    """Units of an entry each, that all have one line table."""
+    program = one_row(BASE) + SEQUENCE_END
+    table = declaration(1, [(DW_AT_stmt_list, DW_FORM_sec_offset)], False, DW_TAG_compile_unit) + b"\0"
+    line = line_table(line_header(), program) + program
+    return structure(elf(info=unit(b"\1" + words(0)) * count, abbrev=table, line=line))
 
 
 def falling_rows(count):

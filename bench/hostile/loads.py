@@ -26,7 +26,7 @@ ABSOLUTE_FUNCTION = struct.pack("<BBH", 0x12, 0, row_files.ABSOLUTE)
 # `tables` says that the definition has the same bytes read for many tables, `guests` that what is taken is the guest's.
 Load = namedtuple("Load", "words files tables guests", defaults=(False, False))
 NAMES = {"info": b".debug_info", "abbrev": b".debug_abbrev", "rnglists": b".debug_rnglists", "line": b".debug_line",
-         "text": b".debug_str"}
+         "text": b".debug_str", "line_text": b".debug_line_str"}
 
 
 # ---- what is run
