@@ -18,7 +18,7 @@ MOST_CLOCK = 120
 # list, would write the zeros of the next.
 ZEROS = {"MALLOC_MMAP_THRESHOLD_": str(1 << 17)}
 # The time of change of the files that a folder is given, in nanoseconds: what is written later has another.
-MARK = 1
+MARK = 1_000_000_000
 
 
 class TooLong(Exception):
