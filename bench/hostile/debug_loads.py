@@ -9,13 +9,11 @@ from row_files import BASE, words
 DW_TAG_compile_unit, DW_TAG_inlined_subroutine, DW_TAG_variable = 0x11, 0x1D, 0x34
 DW_AT_name, DW_AT_stmt_list, DW_AT_low_pc, DW_AT_high_pc = 0x03, 0x10, 0x11, 0x12
 DW_AT_ranges, DW_AT_call_file, DW_AT_call_line = 0x55, 0x58, 0x59
-DW_FORM_addr, DW_FORM_data2, DW_FORM_data4, DW_FORM_string = 0x01, 0x05, 0x06, 0x08
+DW_FORM_addr, DW_FORM_data4, DW_FORM_string = 0x01, 0x06, 0x08
 DW_FORM_data1, DW_FORM_strp, DW_FORM_udata, DW_FORM_sec_offset = 0x0B, 0x0E, 0x0F, 0x17
 DW_FORM_flag_present, DW_FORM_line_strp = 0x19, 0x1F
 DW_LNCT_path, DW_LNCT_directory_index = 0x01, 0x02
 DW_RLE_offset_pair, DW_RLE_start_length = 0x04, 0x07
-
-
 RANGE = [(DW_AT_low_pc, DW_FORM_addr), (DW_AT_high_pc, DW_FORM_data4)]
 WORD_RANGE = [(DW_AT_low_pc, DW_FORM_addr), (DW_AT_high_pc, DW_FORM_data1)]
 
@@ -76,7 +74,7 @@ def subprograms(count):
 
 
 def nested_ranges(count):
-    """Subprograms of which each holds the one before, so that at most addresses all are open."""
+    """Subprograms whose ranges are each within the one before, so that at most addresses all are open."""
     size = 4 * count
     body = rows(count, b"\1", ascending(BASE, 1, count), ascending(2 * size, -2, count))
     return structure(elf(size=2 * size + 8, info=unit(body), abbrev=declaration(1, RANGE) + b"\0"))
