@@ -189,11 +189,11 @@ def touched_pages(_):
     return running(data, "harts 1\n0 4000000\n", period="4294967295")._replace(guests=True)
 
 
-def written(count, upper):
-    """A program that so many times asks for the upper bits' bytes of its memory to be written."""
-    code = [0x00100513, 0x000205B7, upper | 0x637, 0x04000893, 0x00000073, 0xFEDFF06F]
+def written(count, size):
+    """A program that asks so many times for so many bytes of its memory, in whole pages, to be written."""
+    code = [0x00100513, 0x000205B7, size | 0x637, 0x04000893, 0x00000073, 0xFEDFF06F]
     content = words(*code)
-    data = row_files.program([(BASE, content, len(content), READ_EXECUTE), (0x20000, b"", upper, 6)])
+    data = row_files.program([(BASE, content, len(content), READ_EXECUTE), (0x20000, b"", size, 6)])
     return running(data, f"harts 1\n0 {len(code) * count}\n", period="4294967295")
 
 
