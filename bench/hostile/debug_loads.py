@@ -86,6 +86,13 @@ def nested_subprograms(count):
     return structure(elf(size=8 * count + 84, info=unit(body), abbrev=declaration(1, RANGE, True) + b"\0"))
 
 
+def nested_calls(count):
+    """Subprograms of which each is a child of the one before, and as many calls that are inlined into the innermost."""
+    table = declaration(1, WORD_RANGE, True) + declaration(2, WORD_RANGE, False, DW_TAG_inlined_subroutine) + b"\0"
+    body = b"".join((bytes([code]) + words(BASE) + b"\4") * count for code in (1, 2))
+    return structure(elf(info=unit(body), abbrev=table))
+
+
 def nested_inlines(count, depth=60):
     """Calls that are inlined so deep into one subprogram, the innermost of a word each."""
     table = (declaration(1, RANGE, True) + declaration(2, RANGE, True, DW_TAG_inlined_subroutine)
