@@ -1,3 +1,4 @@
 pub mod Spans
 pub mod Intervals
 pub mod Scopes
+pub mod Starts

@@ -9,10 +9,10 @@ ghost use Rattle.scope_find.specs.private.Scopes.{subprogram_of, numbers_in, pro
 
 use crate::found::{Found, InlineAt};
 use crate::intervals::{AddressInterval, AddressIntervals, interval_at, intervals_of};
-use crate::names::{procedure_by_symbol, procedure_symbol_name};
+use crate::names::{name_at_start, procedure_by_symbol, symbols_by_start};
 use dwarf_inline::{Structure, Subroutine};
 use dwarf_line::LineTable;
-use elf_image::Image;
+use elf_image::{Function, Image};
 use prof_bytes::{Listed, Memory, Text};
 use scope_types::{LineId, ProcId};
 use std::alloc::Global;
@@ -26,11 +26,14 @@ pub struct Finder<'a> {
     lines: &'a LineTable<'a>,
     image: &'a Image<'a>,
     found: AddressIntervals,
+    /// The function symbols in the order of their starts.
+    starts: Vec<Function<'a>>,
 }
 
 impl<'a> Model for Finder<'a> {
     ghost use Rattle.scope_find.specs.Found.{ProgramScopes};
-    ghost use Rattle.scope_find.specs.private.Intervals.{numbers_of, IsFoundIn};
+    ghost use Rattle.scope_find.specs.private.Intervals.{numbers_of};
+    ghost use Rattle.scope_find.specs.private.Starts.{IsFinder};
 
     ghost Value = { ProgramScopes };
 
@@ -41,7 +44,8 @@ impl<'a> Model for Finder<'a> {
     } };
 
     ghost invariant = { λ finder.
-        IsFoundIn finder.structure.now finder.found.intervals.items (numbers_of finder.found.lists.items) };
+        IsFinder finder.structure.now finder.image.now.functions finder.found.intervals.items
+        (numbers_of finder.found.lists.items) finder.starts.items };
 }
 
 fn subprogram_of(interval: Option<AddressInterval>) -> Option<u32>
@@ -113,7 +117,7 @@ fn line_of(table: &LineTable<'_>, pc: u32) -> LineId
 
 impl<'a> Finder<'a> {
     /// The finder of a program's scopes. Takes time n log n in the number of ranges, times the greatest number
-    /// of calls that are inlined at one address.
+    /// of calls that are inlined at one address, and n log n in the number of function symbols.
     pub fn of(
         alloc: Global,
         structure: &'a Structure<'a>,
@@ -124,12 +128,14 @@ impl<'a> Finder<'a> {
             finder ≡ record { structure = structure.now; lines = lines.now; image = image.now }) }
     {
         let found = intervals_of(alloc, structure)?;
+        let starts = symbols_by_start(alloc, image)?;
         Ok(Finder {
             alloc,
             structure,
             lines,
             image,
             found,
+            starts,
         })
     }
 
@@ -161,14 +167,17 @@ impl<'a> Finder<'a> {
         })
     }
 
-    /// The name of a procedure, of at most 4,096 bytes. Takes time linear in the number of function symbols
-    /// where the procedure is known by a symbol alone.
+    /// The name of a procedure, of at most 4,096 bytes. Takes time logarithmic in the number of function symbols where
+    /// the procedure is known by a symbol alone.
     pub fn proc_name(&self, id: ProcId) -> Result<Text, Memory>
         ensures { IfOk result (λ name. name ≡ (naming_of self.now).proc_name id) }
     {
         match id {
             ProcId::Die(offset) => Text::of(self.alloc, self.structure.proc_name(offset)),
-            ProcId::Sym(start) => Text::of(self.alloc, procedure_symbol_name(self.image, start)),
+            ProcId::Sym(start) => Text::of(
+                self.alloc,
+                name_at_start(self.starts.as_slice(), start),
+            ),
             ProcId::Nameless => Text::of(self.alloc, b"<unknown procedure>"),
         }
     }

@@ -1,24 +1,48 @@
 //! Procedures by the program's function symbols.
-ghost use Rattle.std.specs.Prelude.{◌≡◌, ◌==◌, find};
+ghost use Rattle.std.specs.Prelude.{◌≡◌, ◌==◌, find, IfOk};
+ghost use Rattle.std.specs.List.Sorted.{IsNonDecreasingBy};
 ghost use Rattle.std.specs.Option.{option_copied};
-ghost use Rattle.scope_find.specs.Symbols.{procedure_by_symbol, procedure_symbol_name};
+ghost use Rattle.scope_find.specs.Symbols.{procedure_by_symbol};
+ghost use Rattle.scope_find.specs.private.Starts.{AreByStart, name_at_start};
 
 use elf_image::{Function, Image};
+use prof_bytes::Memory;
 use scope_types::{ProcId, cut_name};
+use std::alloc::Global;
 
-/// The first function symbol that starts at an address.
-fn starting<'a, 'f>(functions: &'f [Function<'a>], start: u32) -> Option<&'f Function<'a>>
-    ensures { option_copied result ≡ find (λ function. function.start == start) functions.now }
+/// The function symbols in the order of their starts; those of one start are in symbol order. Takes time n log n.
+pub(crate) fn symbols_by_start<'a>(
+    alloc: Global,
+    image: &Image<'a>,
+) -> Result<Vec<Function<'a>>, Memory>
+    ensures { IfOk result (λ starts. AreByStart image.now.functions starts.items) }
 {
-    functions.iter().find(|function| function.start == start)
+    let functions = image.functions();
+    // room: `functions.len()`, each symbol once
+    let mut starts = Vec::with_capacity(alloc, functions.len())?;
+    starts.extend_from_slice(functions)?;
+    starts.sort_by_key(|function| function.start)?;
+    Ok(starts)
 }
 
-/// The name of a procedure that is known by a symbol. Takes time linear in the number of function symbols.
-#[tactic(auto, using(crate::proofs::SymbolsFound::symbol_steps))]
-pub(crate) fn procedure_symbol_name<'a>(image: &Image<'a>, start: u32) -> &'a [u8]
-    ensures { result.now ≡ procedure_symbol_name image.now start }
+/// The first function symbol that starts at an address.
+fn starting<'a, 'f>(starts: &'f [Function<'a>], start: u32) -> Option<&'f Function<'a>>
+    requires { IsNonDecreasingBy (λ f. f.start) starts.now }
+    ensures { option_copied result ≡ find (λ f. f.start == start) starts.now }
 {
-    match starting(image.functions(), start) {
+    let index = starts.partition_point(|function| function.start < start);
+    match starts.get(index) {
+        Some(function) if function.start == start => Some(function),
+        _ => None,
+    }
+}
+
+/// The name of a procedure that is known by a symbol. Takes time logarithmic in the number of function symbols.
+pub(crate) fn name_at_start<'a>(starts: &[Function<'a>], start: u32) -> &'a [u8]
+    requires { IsNonDecreasingBy (λ f. f.start) starts.now }
+    ensures { result.now ≡ name_at_start starts.now start }
+{
+    match starting(starts, start) {
         Some(function) => cut_name(function.name),
         None => b"<unnamed>",
     }

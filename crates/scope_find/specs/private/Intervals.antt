@@ -54,7 +54,7 @@ pub record AreIntervalsOf (s : ProgramStructure) (intervals : List AddressInterv
   pub rising : IsNonDecreasingBy (λ p. p.start) intervals
   pub right : (address : ℕ) → IsRightAt s lists address (interval_at intervals address)
 
--- what is so of every finder
+-- what is so of the intervals that are kept for a structure
 pub record IsFoundIn (s : ProgramStructure) (intervals : List AddressInterval) (lists : List (List ℕ)) : Type 0 where
   pub whole : IsWholeStructure s
   pub intervals_are : AreIntervalsOf s intervals lists
