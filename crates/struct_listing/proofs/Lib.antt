@@ -1,6 +1,8 @@
 pub mod Lists
 pub mod RangeTexts
 pub mod Indents
+pub mod Opened
+pub mod Below
 pub mod InlineLines
 pub mod SubprogramLines
 pub mod Holding

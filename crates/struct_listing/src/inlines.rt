@@ -1,37 +1,19 @@
 //! The calls that are inlined into a subprogram.
-ghost use Rattle.std.specs.Prelude.{◌≡◌, ◌+◌, ◌*◌, ◌<◌, ◌≤◌, ◌^◌, ◌++◌, ◌∷◌, [], true, nat_lt, filter, length};
-ghost use Rattle.std.specs.Prelude.{slice_get};
-ghost use Rattle.std.specs.Prelude.{Some, OnOk, if◌then◌else◌};
+ghost use Rattle.std.specs.Prelude.{◌≡◌, ◌+◌, ◌*◌, ◌<◌, ◌≤◌, ◌^◌, ◌++◌, length, OnOk};
 ghost use Rattle.tree_types.specs.TopDown.{line_label, spaces};
 ghost use Rattle.dwarf_inline.specs.Structure.{IsWholeStructure};
 ghost use Rattle.scope_find.specs.Found.{naming_of};
-ghost use Rattle.struct_listing.specs.Listing.{inline_line, inline_lines, inlined_level};
-ghost use Rattle.struct_listing.specs.private.Parts.{inline_part, scopes_of};
+ghost use Rattle.struct_listing.specs.Listing.{inline_line, inline_lines};
+ghost use Rattle.struct_listing.specs.private.Opened.{AreOpenAt, listed_inlines};
+ghost use Rattle.struct_listing.specs.private.Parts.{scopes_of};
 
+use crate::listed::{ListedInline, count_open, listed_below};
 use crate::program::Program;
 use crate::ranges::put_tail;
 use dwarf_inline::Subroutine;
 use prof_bytes::{Memory, put_address, put_place, put_printed};
 use scope_types::LineId;
 use std::alloc::Global;
-
-/// Closes the inlined subroutines that end up to a number.
-fn close_ended(ends: &mut Vec<u32>, number: u32)
-    ensures { ends.new.items ≡ filter (λ end. nat_lt number end) ends.old.items }
-{
-    ends.retain(|end| number < *end);
-}
-
-/// Opens an inlined subroutine.
-fn open_item(ends: &mut Vec<u32>, item: Subroutine) -> Result<(), Memory>
-    ensures { OnOk result (ends.new.items
-        ≡ ends.old.items ++ (if item.inlined then item.next_after_subtree ∷ [] else [])) }
-{
-    if item.inlined {
-        ends.push(item.next_after_subtree)?;
-    }
-    Ok(())
-}
 
 /// Two blanks for each level.
 #[tactic(auto, using(crate::proofs::Indents::indent_more))]
@@ -83,48 +65,27 @@ fn put_inline(
     put_tail(out, program.structure, item)
 }
 
-/// The line of an item below a subprogram, where it is listed.
-fn put_below(
-    out: &mut Vec<u8>,
-    alloc: Global,
-    program: Program<'_>,
-    item: Subroutine,
-    subprogram: u32,
-    number: u32,
-    level: usize,
-) -> Result<(), Memory>
-    requires whole { IsWholeStructure program.structure.now }
-    requires there { slice_get program.structure.now.items number ≡ Some item }
-    requires level { item.inlined ≡ true → level ≡ inlined_level program.structure.now subprogram number }
-    ensures { OnOk result (out.new.items
-        ≡ out.old.items ++ inline_part (scopes_of program.entry) subprogram (number, item)) }
-{
-    if item.inlined && item.range_count > 0 {
-        put_inline(out, alloc, program, level, item)?;
-    }
-    Ok(())
-}
-
-/// The lines of the inlined subroutines below a subprogram. Takes time linear in the items below it, for each of the
-/// inlined subroutines that are open at one of them, and linear in the lines.
+/// The lines of the inlined subroutines below a subprogram. `inlines` are all that are listed, and `ends` those that are
+/// open at it. Takes time linear in the lines, and for each of them in those that are open.
 pub(crate) fn put_inlines(
     out: &mut Vec<u8>,
     alloc: Global,
     program: Program<'_>,
+    inlines: &[ListedInline],
+    ends: &[u32],
     subprogram: u32,
     item: Subroutine,
 ) -> Result<(), Memory>
     requires whole { IsWholeStructure program.structure.now }
-    requires there { slice_get program.structure.now.items subprogram ≡ Some item }
+    requires listed { inlines.now ≡ listed_inlines program.structure.now }
+    requires open { AreOpenAt program.structure.now subprogram ends.now }
     ensures { OnOk result (out.new.items ≡ out.old.items ++ inline_lines (scopes_of program.entry) (subprogram, item)) }
 {
-    let mut ends = Vec::new(alloc);
-    for number in subprogram + 1..item.next_after_subtree {
-        let below = program.structure.subroutine(number);
-        close_ended(&mut ends, number);
-        open_item(&mut ends, below)?;
-        let level = ends.len();
-        put_below(out, alloc, program, below, subprogram, number, level)?;
+    let below = listed_below(inlines, subprogram, item);
+    for inline in below {
+        let level = inline.depth as usize - count_open(ends, inline.number);
+        let callee = program.structure.subroutine(inline.number);
+        put_inline(out, alloc, program, level, callee)?;
     }
     Ok(())
 }

@@ -8,6 +8,7 @@
 #![tactic(auto)]
 
 mod inlines;
+mod listed;
 mod program;
 mod ranges;
 mod subprograms;

@@ -17,8 +17,8 @@ use std::alloc::Global;
 /// no subprogram holds. A range is `0xLO..0xHI`, from its start up to its end, and a place is `FILE:LINE` or an
 /// address.
 ///
-/// Takes time linear in the items below each subprogram that is listed, and n log n in the number of ranges and of
-/// function symbols. A call below nested subprograms is listed once with each of them.
+/// Takes time linear in the text, and n log n in the number of items, of ranges and of function symbols. A call below
+/// nested subprograms is listed once with each of them.
 #[tactic(auto, unfolding(crate::specs::Listing::structure_listing))]
 pub fn listing<'a>(
     alloc: Global,

@@ -1,35 +1,53 @@
-use Rattle.std.proofs.Common.{◌≡◌, ◌+◌, ◌++◌, ◌∷◌, [], ℕ, List, cond, ap, ◌∙◌, arith, rules}
-use Rattle.struct_listing.specs.private.Parts.{opened_after, scopes_of}
-use Rattle.struct_listing.proofs.InlineLines.{none_open, open_more, level_is, no_lines, lines_more, all_lines}
+use Rattle.std.proofs.Common.{◌≡◌, ◌-◌, ◌∙◌, ◌++◌, ℕ, List, get_or, ap, arith}
+use Rattle.std.proofs.lemmas.Option.{slice_get_within}
+use Rattle.struct_listing.specs.Listing.{inlined_level}
+use Rattle.struct_listing.specs.declared.listed.ListedInline.{ListedInline}
+use Rattle.struct_listing.specs.private.Parts.{scopes_of}
+use Rattle.struct_listing.proofs.InlineLines.{IsListedAt, all_lines, level_of, line_more, one_listed}
+use Rattle.struct_listing.proofs.Lists.{item_placed}
 use Rattle.struct_listing.proofs.inlines.put_inlines.Goals as goal
 
-pub loop-number-init : goal.loop-number-init
-loop-number-init c = record {
-  open_ends = none_open c.args.program.structure.now c.args.subprogram _ c.new-ends.result.items (omega arith) (search rules);
-  lines = no_lines (scopes_of c.args.program) c.args.subprogram _ c.args.out.now.items (omega arith);
-}
+abbrev nothing : ListedInline
+nothing = record { number = 0; depth = 0 }
 
-pub put_below-requires-clause-level : goal.put_below-requires-clause-level
-put_below-requires-clause-level c = λ inlined.
-    let is : c.open_item.new.ends.items ≡ opened_after c.loop-number.number c.subroutine-below.result c.loop-number.ends.items =
-    c.in_ok-open_item.ensures ∙ ap (λ (es : List ℕ). es ++ cond c.subroutine-below.result.inlined (c.subroutine-below.result.next_after_subtree ∷ []) []) c.close_ended.ensures in
-    c.len-level.ensures ∙ c.open_item.new.ends.ok.0
-    ∙ level_is c.args.program.structure.now c.args.subprogram c.loop-number.number c.subroutine-below.result c.loop-number.ends.items c.open_item.new.ends.items
-    c.requires.whole (omega arith) c.subroutine-below.ensures c.loop-number.invariant.open_ends is inlined
+pub overflow_sub-level : goal.overflow_sub-level
+overflow_sub-level c =
+    let s = c.args.program.structure.now in
+    let below : List ListedInline = c.listed_below-below.result.now in
+    let l : ListedInline = get_or below c.loop-inline.inline-index nothing in
+    let known : IsListedAt s c.args.subprogram c.args.item c.loop-inline.inline-index l =
+    one_listed s c.args.subprogram c.args.item below c.loop-inline.inline-index nothing (c.listed_below-below.ensures s c.requires.listed) c.loop-inline-test.true in
+    let deep = level_of s c.args.subprogram c.args.item c.loop-inline.inline-index l c.args.ends.now known c.requires.open in
+    omega (arith, c.count_open.ensures)
 
-pub loop-number-preserved : goal.loop-number-preserved
-loop-number-preserved c =
-    let is : c.open_item.new.ends.items ≡ opened_after c.loop-number.number c.subroutine-below.result c.loop-number.ends.items =
-    c.in_ok-open_item.ensures ∙ ap (λ (es : List ℕ). es ++ cond c.subroutine-below.result.inlined (c.subroutine-below.result.next_after_subtree ∷ []) []) c.close_ended.ensures in
-    record {
-      open_ends = open_more c.args.program.structure.now c.args.subprogram c.loop-number.number c.subroutine-below.result c.loop-number.ends.items c.open_item.new.ends.items
-          (omega arith) c.subroutine-below.ensures c.loop-number.invariant.open_ends is;
-      lines = lines_more (scopes_of c.args.program) c.args.subprogram c.loop-number.number c.subroutine-below.result c.args.out.now.items c.loop-number.out.items c.put_below.new.out.items
-          (omega arith) c.subroutine-below.ensures c.loop-number.invariant.lines c.in_ok-put_below.ensures;
-    }
+pub subroutine-callee-requires : goal.subroutine-callee-requires
+subroutine-callee-requires c =
+    let s = c.args.program.structure.now in
+    let below : List ListedInline = c.listed_below-below.result.now in
+    let l : ListedInline = get_or below c.loop-inline.inline-index nothing in
+    let known : IsListedAt s c.args.subprogram c.args.item c.loop-inline.inline-index l =
+    one_listed s c.args.subprogram c.args.item below c.loop-inline.inline-index nothing (c.listed_below-below.ensures s c.requires.listed) c.loop-inline-test.true in
+    slice_get_within s.items l.number known.callee known.there
+
+pub put_inline-requires-clause-placed : goal.put_inline-requires-clause-placed
+put_inline-requires-clause-placed c =
+    item_placed c.args.program.structure.now (get_or c.listed_below-below.result.now c.loop-inline.inline-index nothing).number c.subroutine-callee.result c.requires.whole c.subroutine-callee.ensures
+
+pub loop-inline-preserved : goal.loop-inline-preserved
+loop-inline-preserved c =
+    let s = c.args.program.structure.now in
+    let below : List ListedInline = c.listed_below-below.result.now in
+    let l : ListedInline = get_or below c.loop-inline.inline-index nothing in
+    let known : IsListedAt s c.args.subprogram c.args.item c.loop-inline.inline-index l =
+    one_listed s c.args.subprogram c.args.item below c.loop-inline.inline-index nothing (c.listed_below-below.ensures s c.requires.listed) c.loop-inline-test.true in
+    let deep = level_of s c.args.subprogram c.args.item c.loop-inline.inline-index l c.args.ends.now known c.requires.open in
+    let level : l.depth - c.count_open.result ≡ inlined_level s c.args.subprogram l.number = omega (arith, c.count_open.ensures) in
+    line_more (scopes_of c.args.program) c.args.subprogram c.args.item c.loop-inline.inline-index (l.depth - c.count_open.result) l c.subroutine-callee.result c.args.out.now.items c.loop-inline.out.items
+    c.put_inline.new.out.items known c.subroutine-callee.ensures level c.loop-inline.invariant c.in_ok-put_inline.ensures
 
 pub returns : goal.returns
 returns c =
-    let after = (c.requires.whole.after c.args.subprogram c.args.item c.requires.there).0 in
-    c.loop-number.invariant.lines
-    ∙ ap (λ (l : List ℕ). c.args.out.now.items ++ l) (all_lines (scopes_of c.args.program) c.args.subprogram c.args.item c.loop-number.number (omega (arith, after)))
+    c.loop-inline.invariant
+    ∙ ap (λ (lines : List ℕ). c.args.out.now.items ++ lines)
+    (all_lines (scopes_of c.args.program) c.args.subprogram c.args.item c.listed_below-below.result.now c.loop-inline.inline-index
+    (c.listed_below-below.ensures c.args.program.structure.now c.requires.listed) (omega arith))
