@@ -6,5 +6,7 @@ pub mod HalvedRows
 pub mod Forward
 pub mod Fuel
 pub mod CollectedRows
+pub mod SearchedRows
+pub mod UnkeptTables
 pub mod TableLists
 pub mod Within

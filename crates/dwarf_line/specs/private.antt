@@ -3,3 +3,4 @@ pub mod BestRow
 pub mod Rising
 pub mod Collecting
 pub mod Tables
+pub mod Unkept

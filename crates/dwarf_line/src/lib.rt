@@ -5,6 +5,7 @@
 //! `elf_image`, `address_ranges`, `scope_types`, `prof_bytes` and `byteorder`.
 #![tactic(auto)]
 
+mod code;
 pub mod constants;
 mod encoding;
 mod fault;
@@ -16,8 +17,10 @@ mod program;
 mod registers;
 mod rows;
 mod run;
+mod search;
 mod sequence;
 mod tables;
+mod unkept;
 
 pub use fault::LineFault;
 pub use laws::row_count_is_at_most_bytes;

@@ -1,21 +1,25 @@
 //! The line tables at some offsets, and the rows and file names that they give.
 ghost use Rattle.std.specs.Prelude.{◌≡◌, ◌<◌, ◌^◌, ◌++◌, ◌∷◌, [], option_to_list, IfOk, is_some, length, take};
-ghost use Rattle.std.specs.Prelude.{unwrap_or};
+ghost use Rattle.std.specs.Prelude.{unwrap_or, map};
+ghost use Rattle.std.specs.Result.{IfErr};
 ghost use Rattle.std.specs.Option.{option_copied};
-ghost use Rattle.prof_bytes.specs.Outcome.{Gives};
+ghost use Rattle.prof_bytes.specs.Outcome.{Gives, FailsBy};
 ghost use Rattle.scope_types.specs.Limits.{most_name_bytes};
 ghost use Rattle.dwarf_line.specs.Names.{texts_of};
 ghost use Rattle.dwarf_line.specs.Lines.{table_by, line_table_of, line_tables_of, lines_at, table_with, joined_path};
 ghost use Rattle.dwarf_line.specs.Lines.{directory_path, file_in, file_name_of, unknown_file};
 ghost use Rattle.dwarf_line.specs.Sequences.{line_at};
 ghost use Rattle.dwarf_line.specs.private.Tables.{added_to};
+ghost use Rattle.dwarf_line.specs.private.Unkept.{unkept_read};
 
+use crate::code::Segments;
 use crate::fault::LineFault;
 use crate::header::{LineHeader, read_header};
 use crate::names::NamedPath;
 use crate::run::run;
 use crate::sequence::{Collector, Sequence};
 use crate::tables::Table;
+use crate::unkept::{UnkeptTable, UnkeptTables};
 use address_ranges::RangeTable;
 use dwarf_forms::reader_at;
 use elf_image::{DebugParts, Image};
@@ -30,14 +34,20 @@ use std::marker::Model;
 pub struct LineTable<'a> {
     tables: RangeTable<Table<'a>>,
     sequences: RangeTable<Sequence>,
+    unkept: UnkeptTables<'a>,
 }
 
 impl<'a> Model for LineTable<'a> {
+    ghost use Rattle.std.specs.Prelude.{◌++◌, map};
+    ghost use Rattle.std.specs.List.{flat_map};
     ghost use Rattle.dwarf_line.specs.Lines.{Lines};
 
     ghost Value = { Lines };
 
-    ghost view = { λ lines. record { tables = lines.tables; sequences = lines.sequences } };
+    ghost view = { λ lines. record {
+      tables = lines.tables ++ map (λ t. t.names) lines.unkept;
+      sequences = lines.sequences ++ flat_map (λ t. t.sequences) lines.unkept;
+    } };
 }
 
 impl<'a> LineTable<'a> {
@@ -45,7 +55,10 @@ impl<'a> LineTable<'a> {
     fn table(&self, offset: u32) -> Option<&Table<'a>>
         ensures { option_copied result ≡ table_with self.now.tables offset }
     {
-        self.tables.first(offset)
+        match self.tables.first(offset) {
+            Some(table) => Some(table),
+            None => self.unkept.names(offset),
+        }
     }
 
     /// Whether a table of version 5 was read at this offset of `.debug_line` (DWARF 5, section 6.2.4). Takes no memory,
@@ -62,13 +75,10 @@ impl<'a> LineTable<'a> {
     pub fn row_at(&self, pc: u32) -> Option<LineId>
         ensures { result ≡ line_at self.now.sequences pc }
     {
-        let sequence = self.sequences.first(pc)?;
-        let row = sequence.rows.row_at(pc)?;
-        Some(LineId::Row {
-            table: sequence.table,
-            file: row.file,
-            line: row.line,
-        })
+        match self.sequences.first(pc) {
+            Some(sequence) => sequence.line_at(pc),
+            None => self.unkept.line_at(pc),
+        }
     }
 
     /// The name of a file of the table at an offset, of at most `MOST_NAME_BYTES` bytes (DWARF 5, section 6.2.4);
@@ -171,23 +181,90 @@ fn read_table<'a>(
     }
 }
 
-/// The tables at these offsets, in order; the sequences of all of them are collected.
-fn read_tables<'a>(
+/// How many bytes the program of a table of version 5 at an offset has; a fault where its header is cut off.
+fn program_size(line: &[u8], offset: u32) -> Result<usize, LineFault> {
+    let mut reader = reader_at(line, offset as usize, LineFault { offset })?;
+    let mut table = reader.part()?;
+    if table.u16()? != 5 {
+        return Ok(0);
+    }
+    let _address_and_segment_selector_sizes = table.u16()?;
+    let header_length = table.u32()?;
+    table.take(header_length as usize)?;
+    Ok(table.left())
+}
+
+/// The tables at these offsets, in order, while their programs together have at most as many bytes as `.debug_line`;
+/// and the offsets after these. The sequences of the tables are collected. Programs that don't overlap are all read
+/// here: what `program_size` says decides only whether a table is read here, so it has no clause.
+fn read_tables<'a, 'o>(
     alloc: Global,
     line: &'a [u8],
     sections: &DebugParts<'a>,
-    offsets: &[u32],
+    offsets: &'o [u32],
     collector: &mut Collector<'_, '_>,
-) -> Result<Vec<Table<'a>>, Fail<LineFault>>
+) -> Result<(Vec<Table<'a>>, &'o [u32]), Fail<LineFault>>
     requires { length line.now < 2 ^ 32 }
-    ensures { Gives (λ v. (v.items, collector.new.sequences)) result
-        (added_to [] collector.old.sequences
+    ensures read { IfOk result (λ read. added_to read.0.items collector.new.sequences
+        (line_tables_of line.now (texts_of sections.now) collector.old.segments read.1.now)
+        ≡ added_to [] collector.old.sequences
         (line_tables_of line.now (texts_of sections.now) collector.old.segments offsets.now)) }
+    ensures fault { IfErr result (λ fail. FailsBy fail (added_to [] collector.old.sequences
+        (line_tables_of line.now (texts_of sections.now) collector.old.segments offsets.now))) }
+{
+    let mut tables = Vec::new(alloc);
+    let mut rest = offsets;
+    let mut room = line.len();
+    while let Some((offset, others)) = rest.split_first() {
+        let size = program_size(line, *offset).unwrap_or(0);
+        if room < size {
+            return Ok((tables, rest));
+        }
+        room -= size;
+        let table = read_table(alloc, line, sections, *offset, collector)?;
+        push_some(&mut tables, table)?;
+        rest = others;
+    }
+    Ok((tables, rest))
+}
+
+/// Reads the table at an offset, and keeps its program in place of its rows. `None` for a table of an earlier version.
+#[tactic(auto, unfolding(crate::specs::Lines::line_table_of))]
+fn read_unkept_table<'a>(
+    alloc: Global,
+    line: &'a [u8],
+    sections: &DebugParts<'a>,
+    segments: &Segments,
+    offset: u32,
+) -> Result<Option<UnkeptTable<'a>>, Fail<LineFault>>
+    requires { length line.now < 2 ^ 32 }
+    ensures { Gives (λ t. map (unkept_read segments.now) (option_to_list t)) result
+        (line_table_of line.now (texts_of sections.now) segments.now offset) }
+{
+    let fault = LineFault { offset };
+    let mut reader = reader_at(line, offset as usize, fault)?;
+    match read_header(alloc, sections, &mut reader)? {
+        None => Ok(None),
+        Some(header) => Ok(Some(UnkeptTable::of(header, offset, segments)?)),
+    }
+}
+
+/// The tables at these offsets, in order, with their programs in place of their rows.
+fn read_unkept<'a>(
+    alloc: Global,
+    line: &'a [u8],
+    sections: &DebugParts<'a>,
+    segments: &Segments,
+    offsets: &[u32],
+) -> Result<Vec<UnkeptTable<'a>>, Fail<LineFault>>
+    requires { length line.now < 2 ^ 32 }
+    ensures { Gives (λ v. map (unkept_read segments.now) v.items) result
+        (line_tables_of line.now (texts_of sections.now) segments.now offsets.now) }
 {
     let mut tables = Vec::new(alloc);
     let mut rest = offsets;
     while let Some((offset, others)) = rest.split_first() {
-        let table = read_table(alloc, line, sections, *offset, collector)?;
+        let table = read_unkept_table(alloc, line, sections, segments, *offset)?;
         push_some(&mut tables, table)?;
         rest = others;
     }
@@ -197,7 +274,7 @@ fn read_tables<'a>(
 /// The line tables at these offsets of `.debug_line` (DWARF 5, section 6.2), or the first fault in their
 /// order. Of the sequences those are kept that lie within one executable segment of the program. Takes time
 /// linear in the bytes of the tables, and n log n in the number of tables and of sequences.
-#[tactic(auto, using(crate::proofs::TableLists::lines_are, crate::proofs::TableLists::lines_fail))]
+#[tactic(auto, using(crate::proofs::UnkeptTables::all_lines, crate::proofs::UnkeptTables::rest_fails, crate::proofs::TableLists::lines_fail))]
 pub fn read_lines<'a>(
     alloc: Global,
     line: &'a [u8],
@@ -210,8 +287,15 @@ pub fn read_lines<'a>(
         (lines_at line.now (texts_of sections.entry) image.now.segments offsets.now) }
 {
     let mut collector = Collector::new(alloc, image);
-    let tables = read_tables(alloc, line, &sections, offsets, &mut collector)?;
+    let (tables, rest) = read_tables(alloc, line, &sections, offsets, &mut collector)?;
+    let segments = Segments::of(alloc, image)?;
+    let unkept = read_unkept(alloc, line, &sections, &segments, rest)?;
     let sequences = RangeTable::of(alloc, collector.finish())?;
     let tables = RangeTable::of(alloc, tables)?;
-    Ok(LineTable { tables, sequences })
+    let unkept = UnkeptTables::of(alloc, unkept, segments)?;
+    Ok(LineTable {
+        tables,
+        sequences,
+        unkept,
+    })
 }

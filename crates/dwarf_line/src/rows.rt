@@ -80,12 +80,19 @@ impl SequenceRows {
 
 /// The greatest address so far, and the last row at it.
 #[derive(Clone, Copy)]
-struct BestRow {
-    greatest: u32,
-    found: Option<LineRow>,
+pub(crate) struct BestRow {
+    pub(crate) greatest: u32,
+    pub(crate) found: Option<LineRow>,
 }
 
-fn better(address: u32, best: BestRow, row: LineRow) -> BestRow
+/// No row was seen.
+pub(crate) const NO_ROW: BestRow = BestRow {
+    greatest: 0,
+    found: None,
+};
+
+/// The best row after one more: this one where its address is at most `address` and no lower than the best so far.
+pub(crate) fn better(address: u32, best: BestRow, row: LineRow) -> BestRow
     ensures { result ≡ better address best row }
 {
     if row.address <= address && best.greatest <= row.address {
@@ -101,10 +108,7 @@ fn better(address: u32, best: BestRow, row: LineRow) -> BestRow
 fn last_row_at(address: u32, rows: &[LineRow]) -> Option<LineRow>
     ensures { result ≡ last_row_at address rows.now }
 {
-    let mut best = BestRow {
-        greatest: 0,
-        found: None,
-    };
+    let mut best = NO_ROW;
     for row in rows {
         best = better(address, best, *row);
     }

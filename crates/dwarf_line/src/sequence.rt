@@ -3,12 +3,14 @@ ghost use Rattle.std.specs.Prelude.{◌≡◌, [], IfOk};
 ghost use Rattle.elf_image.specs.Image.{counts};
 ghost use Rattle.dwarf_line.specs.Sequences.{sequence_range, is_counted};
 ghost use Rattle.dwarf_line.specs.private.Collecting.{with_row, with_effect};
+ghost use Rattle.dwarf_line.specs.private.Unkept.{line_in};
 
 use crate::registers::LineRow;
 use crate::rows::SequenceRows;
 use address_ranges::{AddressRange, HasRange};
 use elf_image::Image;
 use prof_bytes::Memory;
+use scope_types::LineId;
 use std::alloc::Global;
 use std::marker::Model;
 use std::mem;
@@ -19,6 +21,20 @@ pub(crate) struct Sequence {
     pub(crate) table: u32,
     pub(crate) rows: SequenceRows,
     pub(crate) end: u32,
+}
+
+impl Sequence {
+    /// The line in force at an address.
+    pub(crate) fn line_at(&self, pc: u32) -> Option<LineId>
+        ensures { result ≡ line_in pc self.now }
+    {
+        let row = self.rows.row_at(pc)?;
+        Some(LineId::Row {
+            table: self.table,
+            file: row.file,
+            line: row.line,
+        })
+    }
 }
 
 impl HasRange for Sequence {

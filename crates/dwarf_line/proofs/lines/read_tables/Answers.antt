@@ -4,11 +4,11 @@ use Rattle.prof_bytes.specs.Outcome.{FailsBy}
 use Rattle.dwarf_line.specs.Names.{texts_of}
 use Rattle.dwarf_line.specs.Lines.{TableNames, line_tables_of}
 use Rattle.dwarf_line.specs.private.Tables.{added_to}
-use Rattle.dwarf_line.proofs.TableLists.{one_more, fails_here, none_left}
+use Rattle.dwarf_line.proofs.TableLists.{one_more, fails_here}
 use Rattle.dwarf_line.proofs.lines.read_tables.Goals as goal
 
-pub returns-in_err-table : goal.returns-in_err-table
-returns-in_err-table c =
+pub returns-in_err-table-clause-fault : goal.returns-in_err-table-clause-fault
+returns-in_err-table-clause-fault c =
     let split : c.loop-offset.rest.now ≡ c.in-Some.offset.now ∷ c.in-Some.others.now = grind (arith, common_steps) in
     let failed : FailsBy c.in_err-table.field-0.0 (added_to [] c.args.collector.now.sequences (line_tables_of c.args.line.now (texts_of c.args.sections.now) c.args.collector.now.segments c.args.offsets.now)) =
     rw (← c.loop-offset.invariant.tables, split)
@@ -29,9 +29,5 @@ loop-offset-preserved c =
           ∙ c.loop-offset.invariant.tables;
     }
 
-pub returns : goal.returns
-returns c =
-    let none : c.loop-offset.rest.now ≡ [] = grind (arith, common_steps) in
-    sym c.loop-offset.invariant.tables
-    ∙ ap (λ (os : List ℕ). added_to c.loop-offset.tables.items c.loop-offset.collector.sequences (line_tables_of c.args.line.now (texts_of c.args.sections.now) c.args.collector.now.segments os)) none
-    ∙ none_left c.args.line.now (texts_of c.args.sections.now) c.args.collector.now.segments c.loop-offset.tables.items c.loop-offset.collector.sequences
+pub returns-clause-read : goal.returns-clause-read
+returns-clause-read c = c.loop-offset.invariant.tables
