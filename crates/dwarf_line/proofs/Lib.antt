@@ -1,6 +1,7 @@
 pub mod Answered
 pub mod CountedItems
 pub mod ContentValues
+pub mod NameEntries
 pub mod BestRows
 pub mod HalvedRows
 pub mod Forward

@@ -1,4 +1,5 @@
 pub mod ContentValues
+pub mod NameEntries
 pub mod BestRow
 pub mod Rising
 pub mod Collecting

@@ -6,7 +6,7 @@ ghost use Rattle.dwarf_line.specs.Names.{texts_of};
 
 use crate::encoding::LineEncoding;
 use crate::fault::LineFault;
-use crate::names::{NamedPath, read_names};
+use crate::names::{NamedPaths, read_names};
 use elf_image::DebugParts;
 use prof_bytes::{Fail, Reader};
 use std::alloc::Global;
@@ -19,8 +19,8 @@ const ADDRESS_SIZE: u8 = 4;
 #[derive(Drop)]
 pub(crate) struct LineHeader<'a> {
     pub(crate) encoding: LineEncoding<'a>,
-    pub(crate) directories: Vec<NamedPath<'a>>,
-    pub(crate) file_names: Vec<NamedPath<'a>>,
+    pub(crate) directories: NamedPaths<'a>,
+    pub(crate) file_names: NamedPaths<'a>,
     pub(crate) program: Reader<'a, LineFault>,
 }
 
@@ -31,8 +31,8 @@ impl<'a> Model for LineHeader<'a> {
 
     ghost view = { λ header. record {
       encoding = header.encoding;
-      directories = header.directories.items;
-      file_names = header.file_names.items;
+      directories = header.directories;
+      file_names = header.file_names;
       program = header.program;
     } };
 }

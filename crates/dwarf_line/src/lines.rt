@@ -15,7 +15,7 @@ ghost use Rattle.dwarf_line.specs.private.Unkept.{unkept_read};
 use crate::code::Segments;
 use crate::fault::LineFault;
 use crate::header::{LineHeader, read_header};
-use crate::names::NamedPath;
+use crate::names::NamedPaths;
 use crate::run::run;
 use crate::sequence::{Collector, Sequence};
 use crate::tables::Table;
@@ -94,7 +94,7 @@ impl<'a> LineTable<'a> {
     }
 }
 
-fn directory_path<'a>(directories: &[NamedPath<'a>], index: Option<u64>) -> &'a [u8]
+fn directory_path<'a>(directories: &NamedPaths<'a>, index: Option<u64>) -> &'a [u8]
     ensures { result.now ≡ directory_path directories.now index }
 {
     let Some(index) = index else {
@@ -122,9 +122,9 @@ fn joined_path(alloc: Global, directory: &[u8], path: &[u8]) -> Result<Text, Mem
 fn name_in(alloc: Global, table: &Table<'_>, file: u32) -> Result<Text, Memory>
     ensures { IfOk result (λ name. name ≡ unwrap_or (file_in table.now file) unknown_file) }
 {
-    match table.file_names.as_slice().get(file as usize) {
+    match table.file_names.get(file as usize) {
         Some(entry) => {
-            let directory = directory_path(table.directories.as_slice(), entry.directory_index);
+            let directory = directory_path(&table.directories, entry.directory_index);
             joined_path(alloc, directory, entry.path)
         }
         None => Text::of(alloc, b"<unknown file>"),

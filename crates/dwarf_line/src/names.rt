@@ -1,10 +1,11 @@
 //! Directories and files of a line table (DWARF 5, section 6.2.4.1).
-ghost use Rattle.std.specs.Prelude.{◌≡◌, option_map};
+ghost use Rattle.std.specs.Prelude.{◌≡◌, option_map, slice_get, unwrap_or};
 ghost use Rattle.std.specs.Option.{option_copied};
 ghost use Rattle.prof_bytes.specs.Outcome.{GivesAt, GivesFrom};
 ghost use Rattle.dwarf_forms.specs.Values.{form_value};
 ghost use Rattle.dwarf_line.specs.Names.{texts_of, repeated_from, format_from, path_by_value, index_by_value};
 ghost use Rattle.dwarf_line.specs.Names.{name_entry_from, names_from};
+ghost use Rattle.dwarf_line.specs.private.NameEntries.{has_index};
 ghost use Rattle.dwarf_line.specs.private.ContentValues.{held_values, content_values_from, as_first, earlier_first};
 
 use crate::constants::{DW_LNCT_directory_index, DW_LNCT_path};
@@ -37,6 +38,50 @@ impl<'a> Model for NamedPath<'a> {
     ghost Value = { NamedPath };
 
     ghost view = { λ entry. record { path = entry.path.now; directory_index = entry.directory_index } };
+}
+
+/// An entry of a list. The index is 0 where entries of the list have none.
+#[derive(Clone, Copy)]
+struct NameEntry<'a> {
+    path: &'a [u8],
+    directory_index: u64,
+}
+
+/// A list of directories or of files, of which each has a directory index or none has: an entry takes 24 bytes. Contracts
+/// see the entries.
+#[derive(Drop)]
+pub(crate) struct NamedPaths<'a> {
+    indexed: bool,
+    entries: Vec<NameEntry<'a>>,
+}
+
+impl<'a> Model for NamedPaths<'a> {
+    ghost use Rattle.std.specs.Prelude.{List, map};
+    ghost use Rattle.dwarf_line.specs.Names.{NamedPath};
+    ghost use Rattle.dwarf_line.specs.private.NameEntries.{named_entry};
+
+    ghost Value = { List NamedPath };
+
+    ghost view = { λ paths. map (named_entry paths.indexed) paths.entries.items };
+}
+
+impl<'a> NamedPaths<'a> {
+    /// The entry with an index.
+    pub(crate) fn get(&self, index: usize) -> Option<NamedPath<'a>>
+        ensures { result ≡ slice_get self.now index }
+    {
+        match self.entries.get(index) {
+            Some(entry) => Some(NamedPath {
+                path: entry.path,
+                directory_index: if self.indexed {
+                    Some(entry.directory_index)
+                } else {
+                    None
+                },
+            }),
+            None => None,
+        }
+    }
 }
 
 #[tactic(auto, unfolding(crate::specs::Names::format_from))]
@@ -164,22 +209,43 @@ fn read_entry<'a>(
     })
 }
 
+/// An entry as a list keeps it.
+fn kept_entry<'a>(entry: NamedPath<'a>) -> NameEntry<'a>
+    ensures path { result.path.now ≡ entry.entry.path }
+    ensures index { result.directory_index ≡ unwrap_or entry.entry.directory_index 0 }
+{
+    NameEntry {
+        path: entry.path,
+        directory_index: entry.directory_index.unwrap_or(0),
+    }
+}
+
+/// Whether entries of these formats have a directory index.
+fn has_index(formats: &[EntryFormat]) -> bool
+    ensures { result ≡ has_index formats.now }
+{
+    formats
+        .iter()
+        .any(|format| format.content_type == DW_LNCT_directory_index)
+}
+
 fn entries<'a>(
     alloc: Global,
     sections: &DebugParts<'a>,
     reader: &mut Reader<'a, LineFault>,
     formats: &[EntryFormat],
     count: u64,
-) -> Result<Vec<NamedPath<'a>>, Fail<LineFault>>
-    ensures { GivesFrom (λ v. v.items) result reader.new
+) -> Result<NamedPaths<'a>, Fail<LineFault>>
+    ensures { GivesFrom (λ v. v) result reader.new
         (repeated_from (name_entry_from (texts_of sections.now) formats.now) count reader.old) }
 {
+    let indexed = has_index(formats);
     let mut entries = Vec::new(alloc);
     for _ in 0..count {
         let entry = read_entry(sections, reader, formats)?;
-        entries.push(entry)?;
+        entries.push(kept_entry(entry))?;
     }
-    Ok(entries)
+    Ok(NamedPaths { indexed, entries })
 }
 
 /// A list of directories or of files: their formats, their number, and the entries.
@@ -188,8 +254,8 @@ pub(crate) fn read_names<'a>(
     alloc: Global,
     sections: &DebugParts<'a>,
     reader: &mut Reader<'a, LineFault>,
-) -> Result<Vec<NamedPath<'a>>, Fail<LineFault>>
-    ensures { GivesFrom (λ v. v.items) result reader.new (names_from (texts_of sections.now) reader.old) }
+) -> Result<NamedPaths<'a>, Fail<LineFault>>
+    ensures { GivesFrom (λ v. v) result reader.new (names_from (texts_of sections.now) reader.old) }
 {
     let format_count = reader.u8()?;
     let formats = formats(alloc, reader, format_count)?;

@@ -1,6 +1,6 @@
 //! The directories and files of tables.
 
-use crate::names::NamedPath;
+use crate::names::NamedPaths;
 use address_ranges::{AddressRange, HasRange};
 use std::marker::Model;
 
@@ -8,8 +8,8 @@ use std::marker::Model;
 #[derive(Drop)]
 pub(crate) struct Table<'a> {
     pub(crate) offset: u32,
-    pub(crate) directories: Vec<NamedPath<'a>>,
-    pub(crate) file_names: Vec<NamedPath<'a>>,
+    pub(crate) directories: NamedPaths<'a>,
+    pub(crate) file_names: NamedPaths<'a>,
 }
 
 impl<'a> Model for Table<'a> {
@@ -19,8 +19,8 @@ impl<'a> Model for Table<'a> {
 
     ghost view = { λ table. record {
       offset = table.offset;
-      directories = table.directories.items;
-      file_names = table.file_names.items;
+      directories = table.directories;
+      file_names = table.file_names;
     } };
 }
 
