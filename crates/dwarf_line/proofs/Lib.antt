@@ -4,10 +4,12 @@ pub mod ContentValues
 pub mod NameEntries
 pub mod BestRows
 pub mod HalvedRows
+pub mod RowsByAddress
 pub mod Forward
 pub mod Fuel
 pub mod CollectedRows
 pub mod SearchedRows
 pub mod UnkeptTables
 pub mod TableLists
+pub mod CutPaths
 pub mod Within

@@ -24,8 +24,8 @@ use address_ranges::RangeTable;
 use dwarf_forms::reader_at;
 use elf_image::{DebugParts, Image};
 use prof_bytes::{Fail, Memory, Text, push_some};
-use scope_types::LineId;
 use scope_types::limits::MOST_NAME_BYTES;
+use scope_types::{LineId, cut_name};
 use std::alloc::Global;
 use std::marker::Model;
 
@@ -70,8 +70,7 @@ impl<'a> LineTable<'a> {
     }
 
     /// The line of the row in force at an address (DWARF 5, section 6.2). Takes no memory, and time logarithmic in the
-    /// number of sequences and of the rows of the sequence that holds the address; where the addresses of its rows
-    /// fall, time linear in these rows.
+    /// number of sequences and of the rows of the sequence that holds the address.
     pub fn row_at(&self, pc: u32) -> Option<LineId>
         ensures { result ≡ line_at self.now.sequences pc }
     {
@@ -106,17 +105,25 @@ fn directory_path<'a>(directories: &NamedPaths<'a>, index: Option<u64>) -> &'a [
     }
 }
 
+/// A path after its directory, of at most `MOST_NAME_BYTES` bytes. No more bytes of each are copied.
+fn path_in_directory(alloc: Global, directory: &[u8], path: &[u8]) -> Result<Text, Memory>
+    ensures { IfOk result (λ name. name ≡ take most_name_bytes (directory.now ++ 47 ∷ path.now)) }
+{
+    let mut name = Vec::new(alloc);
+    name.extend_from_slice(cut_name(directory))?;
+    name.push(b'/')?;
+    name.extend_from_slice(cut_name(path))?;
+    name.truncate(MOST_NAME_BYTES);
+    Ok(Text::from_vec(name))
+}
+
 fn joined_path(alloc: Global, directory: &[u8], path: &[u8]) -> Result<Text, Memory>
     ensures { IfOk result (λ name. name ≡ take most_name_bytes (joined_path directory.now path.now)) }
 {
-    let mut name = Vec::new(alloc);
     if !directory.is_empty() && path.first() != Some(&b'/') {
-        name.extend_from_slice(directory)?;
-        name.push(b'/')?;
+        return path_in_directory(alloc, directory, path);
     }
-    name.extend_from_slice(path)?;
-    name.truncate(MOST_NAME_BYTES);
-    Ok(Text::from_vec(name))
+    Text::of(alloc, cut_name(path))
 }
 
 fn name_in(alloc: Global, table: &Table<'_>, file: u32) -> Result<Text, Memory>
@@ -273,7 +280,8 @@ fn read_unkept<'a>(
 
 /// The line tables at these offsets of `.debug_line` (DWARF 5, section 6.2), or the first fault in their
 /// order. Of the sequences those are kept that lie within one executable segment of the program. Takes time
-/// linear in the bytes of the tables, and n log n in the number of tables and of sequences.
+/// linear in the bytes of the tables, and n log n in the number of tables, of sequences, and of rows whose addresses
+/// fall.
 #[tactic(auto, using(crate::proofs::UnkeptTables::all_lines, crate::proofs::UnkeptTables::rest_fails, crate::proofs::TableLists::lines_fail))]
 pub fn read_lines<'a>(
     alloc: Global,

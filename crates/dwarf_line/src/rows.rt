@@ -1,29 +1,49 @@
 //! The rows of a sequence, and the one in force at an address.
-ghost use Rattle.std.specs.Prelude.{◌≡◌, true};
+ghost use Rattle.std.specs.Prelude.{◌≡◌, true, IfOk};
 ghost use Rattle.dwarf_line.specs.private.BestRow.{better};
-ghost use Rattle.dwarf_line.specs.private.Rising.{Rises};
+ghost use Rattle.dwarf_line.specs.private.Rising.{Rises, IsByAddress, start_of};
 ghost use Rattle.dwarf_line.specs.Sequences.{last_row_at};
 
 use crate::registers::LineRow;
+use ghost_value::{Determines, GhostValue};
+use prof_bytes::{Listed, Memory};
 use std::marker::Model;
 
-/// The rows of a sequence. Contracts see them as a list.
+/// Rows in the order of the program. Contracts read it, and no code keeps it.
+type ProgramRows = GhostValue<Listed<LineRow>>;
+
+/// The rows as they are.
+struct AsTheyAre;
+
+impl<'a> Determines<&'a [LineRow], (), Listed<LineRow>> for AsTheyAre {
+    ghost value = { λ rows _. rows.now };
+}
+
+fn program_rows(rows: &[LineRow]) -> ProgramRows
+    ensures { result.value ≡ rows.now }
+{
+    GhostValue::of::<&[LineRow], (), AsTheyAre>(&rows, &())
+}
+
+/// The rows of a sequence, in the order of their addresses, and the address of the program's first. Contracts see them
+/// in the order of the program.
 #[derive(Drop)]
 pub(crate) struct SequenceRows {
+    start: Option<u32>,
     items: Vec<LineRow>,
-    rising: bool,
+    listed: ProgramRows,
 }
 
 impl Model for SequenceRows {
-    ghost use Rattle.std.specs.Prelude.{◌≡◌, true, List};
+    ghost use Rattle.std.specs.Prelude.{List};
     ghost use Rattle.dwarf_line.specs.declared.registers.LineRow.{LineRow};
-    ghost use Rattle.dwarf_line.specs.private.Rising.{Rises};
+    ghost use Rattle.dwarf_line.specs.private.Rising.{IsKept};
 
     ghost Value = { List LineRow };
 
-    ghost view = { λ rows. rows.items.items };
+    ghost view = { λ rows. rows.listed.value };
 
-    ghost invariant = { λ rows. rows.rising ≡ true → Rises rows.items.items };
+    ghost invariant = { λ rows. IsKept rows.listed.value rows.start rows.items.items };
 }
 
 /// Whether the addresses never fall.
@@ -40,6 +60,25 @@ fn is_rising(rows: &[LineRow]) -> bool
     true
 }
 
+/// The rows by address; those of one address are in their order. Takes n log n time.
+fn sorted(mut rows: Vec<LineRow>) -> Result<Vec<LineRow>, Memory>
+    ensures { IfOk result (λ sorted. IsByAddress rows.items sorted.items) }
+{
+    rows.sort_by_key(|row| row.address)?;
+    Ok(rows)
+}
+
+/// The rows by address. Takes linear time where the addresses never fall.
+#[tactic(auto, using(crate::proofs::RowsByAddress::rising_rows))]
+fn by_address(rows: Vec<LineRow>) -> Result<Vec<LineRow>, Memory>
+    ensures { IfOk result (λ sorted. IsByAddress rows.items sorted.items) }
+{
+    if is_rising(rows.as_slice()) {
+        return Ok(rows);
+    }
+    sorted(rows)
+}
+
 /// The row in force among rows whose addresses never fall, by binary search.
 fn last_row_by_search(address: u32, rows: &[LineRow]) -> Option<LineRow>
     requires { Rises rows.now }
@@ -52,29 +91,41 @@ fn last_row_by_search(address: u32, rows: &[LineRow]) -> Option<LineRow>
     Some(rows[count - 1])
 }
 
+fn start_of(rows: &[LineRow]) -> Option<u32>
+    ensures { result ≡ start_of rows.now }
+{
+    match rows {
+        [] => None,
+        [first, ..] => Some(first.address),
+    }
+}
+
 impl SequenceRows {
-    pub(crate) fn from_vec(items: Vec<LineRow>) -> SequenceRows
-        ensures { result ≡ items.items }
+    pub(crate) fn from_vec(items: Vec<LineRow>) -> Result<SequenceRows, Memory>
+        ensures { IfOk result (λ rows. rows ≡ items.items) }
     {
-        let rising = is_rising(items.as_slice());
-        SequenceRows { items, rising }
+        let start = start_of(items.as_slice());
+        let listed = program_rows(items.as_slice());
+        let items = by_address(items)?;
+        Ok(SequenceRows {
+            start,
+            items,
+            listed,
+        })
     }
 
-    pub(crate) fn as_slice(&self) -> &[LineRow]
-        ensures { result.now ≡ self.now }
+    /// The address of the first row.
+    pub(crate) fn start(&self) -> Option<u32>
+        ensures { result ≡ start_of self.now }
     {
-        self.items.as_slice()
+        self.start
     }
 
-    /// The row in force at an address: by binary search where the addresses of the rows never fall, else by a look at
-    /// each row.
+    /// The row in force at an address, by binary search.
     pub(crate) fn row_at(&self, address: u32) -> Option<LineRow>
         ensures { result ≡ last_row_at address self.now }
     {
-        if self.rising {
-            return last_row_by_search(address, self.items.as_slice());
-        }
-        last_row_at(address, self.items.as_slice())
+        last_row_by_search(address, self.items.as_slice())
     }
 }
 
@@ -102,15 +153,4 @@ pub(crate) fn better(address: u32, best: BestRow, row: LineRow) -> BestRow
         };
     }
     best
-}
-
-/// The last row at the greatest address that is at most `address`.
-fn last_row_at(address: u32, rows: &[LineRow]) -> Option<LineRow>
-    ensures { result ≡ last_row_at address rows.now }
-{
-    let mut best = NO_ROW;
-    for row in rows {
-        best = better(address, best, *row);
-    }
-    best.found
 }

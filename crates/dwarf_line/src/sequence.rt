@@ -42,10 +42,11 @@ impl HasRange for Sequence {
 
     ghost range_of = { sequence_range };
 
+    #[tactic(auto, using(crate::proofs::RowsByAddress::range_from, crate::proofs::RowsByAddress::range_of_none))]
     fn range(&self) -> AddressRange {
-        match self.rows.as_slice().first() {
-            Some(first) => AddressRange {
-                start: first.address,
+        match self.rows.start() {
+            Some(start) => AddressRange {
+                start,
                 end: u64::from(self.end),
             },
             None => AddressRange { start: 0, end: 0 },
@@ -109,7 +110,7 @@ impl<'i, 'f> Collector<'i, 'f> {
         let rows = mem::replace(&mut self.rows, Vec::new(self.alloc));
         let sequence = Sequence {
             table: self.table,
-            rows: SequenceRows::from_vec(rows),
+            rows: SequenceRows::from_vec(rows)?,
             end: row.address,
         };
         if is_counted(self.image, &sequence) {
@@ -137,11 +138,12 @@ impl<'i, 'f> Collector<'i, 'f> {
 }
 
 /// Whether a sequence isn't empty and lies within one executable segment of the program.
+#[tactic(auto, using(crate::proofs::RowsByAddress::range_from, crate::proofs::RowsByAddress::range_of_none))]
 fn is_counted(image: &Image<'_>, sequence: &Sequence) -> bool
     ensures { result ≡ is_counted image.now.segments sequence.now }
 {
-    match sequence.rows.as_slice().first() {
-        Some(first) => image.counts(first.address, sequence.end),
+    match sequence.rows.start() {
+        Some(start) => image.counts(start, sequence.end),
         None => false,
     }
 }
