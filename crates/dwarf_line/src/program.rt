@@ -101,6 +101,7 @@ fn no_row_appended(registers: LineRegisters) -> OpcodeEffect
 }
 
 /// A special opcode, less the opcode base.
+#[inline(always)]
 fn special(encoding: &LineEncoding<'_>, adjusted: u8, registers: LineRegisters) -> OpcodeEffect
     ensures { result ≡ special encoding.now adjusted registers }
 {
@@ -152,6 +153,7 @@ fn skip(
 }
 
 /// The registers after a standard opcode other than `DW_LNS_copy`.
+#[inline(always)]
 fn registers_after(
     encoding: &LineEncoding<'_>,
     opcode: u8,
@@ -185,6 +187,7 @@ fn registers_after(
     }
 }
 
+#[inline(always)]
 fn standard(
     encoding: &LineEncoding<'_>,
     opcode: u8,
@@ -226,6 +229,7 @@ fn extended(body: &[u8], registers: LineRegisters) -> Option<OpcodeEffect>
 }
 
 /// An extended opcode after its 0: a size, and that number of bytes.
+#[inline(always)]
 #[tactic(auto, unfolding(crate::specs::Programs::extended_opcode_from))]
 fn extended_opcode(
     registers: LineRegisters,
@@ -244,6 +248,7 @@ fn extended_opcode(
     }
 }
 
+#[inline(always)]
 fn by_opcode(
     encoding: &LineEncoding<'_>,
     opcode: u8,
@@ -263,6 +268,7 @@ fn by_opcode(
 }
 
 /// The opcode at the reader; its faults have the offset of the opcode.
+#[inline(always)]
 #[tactic(auto, unfolding(crate::specs::Programs::opcode_from))]
 pub(crate) fn read_opcode(
     encoding: &LineEncoding<'_>,
