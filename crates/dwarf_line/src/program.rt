@@ -101,8 +101,7 @@ fn no_row_appended(registers: LineRegisters) -> OpcodeEffect
 }
 
 /// A special opcode, less the opcode base.
-#[inline(always)]
-fn special(encoding: &LineEncoding<'_>, adjusted: u8, registers: LineRegisters) -> OpcodeEffect
+fn special<R>(encoding: &LineEncoding<'_>, adjusted: u8, registers: LineRegisters) -> OpcodeEffect
     ensures { result ≡ special encoding.now adjusted registers }
 {
     let moved = at_address(registers, encoding.address_advance(adjusted));
@@ -153,8 +152,7 @@ fn skip(
 }
 
 /// The registers after a standard opcode other than `DW_LNS_copy`.
-#[inline(always)]
-fn registers_after(
+fn registers_after<R>(
     encoding: &LineEncoding<'_>,
     opcode: u8,
     registers: LineRegisters,
@@ -187,8 +185,7 @@ fn registers_after(
     }
 }
 
-#[inline(always)]
-fn standard(
+fn standard<R>(
     encoding: &LineEncoding<'_>,
     opcode: u8,
     registers: LineRegisters,
@@ -200,7 +197,7 @@ fn standard(
     if opcode == DW_LNS_copy {
         return Ok(row_appended(registers));
     }
-    let after = registers_after(encoding, opcode, registers, reader)?;
+    let after = registers_after::<R>(encoding, opcode, registers, reader)?;
     Ok(no_row_appended(after))
 }
 
@@ -229,9 +226,8 @@ fn extended(body: &[u8], registers: LineRegisters) -> Option<OpcodeEffect>
 }
 
 /// An extended opcode after its 0: a size, and that number of bytes.
-#[inline(always)]
 #[tactic(auto, unfolding(crate::specs::Programs::extended_opcode_from))]
-fn extended_opcode(
+fn extended_opcode<R>(
     registers: LineRegisters,
     reader: &mut Reader<'_, LineFault>,
 ) -> Result<OpcodeEffect, LineFault>
@@ -248,8 +244,7 @@ fn extended_opcode(
     }
 }
 
-#[inline(always)]
-fn by_opcode(
+fn by_opcode<R>(
     encoding: &LineEncoding<'_>,
     opcode: u8,
     registers: LineRegisters,
@@ -259,18 +254,18 @@ fn by_opcode(
 {
     let opcode_base = encoding.opcode_base();
     if opcode >= opcode_base {
-        return Ok(special(encoding, opcode - opcode_base, registers));
+        return Ok(special::<R>(encoding, opcode - opcode_base, registers));
     }
     if opcode == 0 {
-        return extended_opcode(registers, reader);
+        return extended_opcode::<R>(registers, reader);
     }
-    standard(encoding, opcode, registers, reader)
+    standard::<R>(encoding, opcode, registers, reader)
 }
 
-/// The opcode at the reader; its faults have the offset of the opcode.
-#[inline(always)]
+/// The opcode at the reader; its faults have the offset of the opcode. `R` is the run that reads it: each has a copy of
+/// this code, so that it is compiled into the run's loop.
 #[tactic(auto, unfolding(crate::specs::Programs::opcode_from))]
-pub(crate) fn read_opcode(
+pub(crate) fn read_opcode<R>(
     encoding: &LineEncoding<'_>,
     registers: LineRegisters,
     reader: &mut Reader<'_, LineFault>,
@@ -281,5 +276,5 @@ pub(crate) fn read_opcode(
     let offset = reader.offset() as u32;
     reader.set_missing(LineFault { offset });
     let opcode = reader.u8()?;
-    by_opcode(encoding, opcode, registers, reader)
+    by_opcode::<R>(encoding, opcode, registers, reader)
 }

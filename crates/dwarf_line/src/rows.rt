@@ -25,8 +25,8 @@ fn program_rows(rows: &[LineRow]) -> ProgramRows
     GhostValue::of::<&[LineRow], (), AsTheyAre>(&rows, &())
 }
 
-/// The rows of a sequence, in the order of their addresses, and the address of the program's first. Contracts see them
-/// in the order of the program.
+/// The rows of a sequence, by address, and the address at which the sequence starts. Contracts see the rows in the
+/// order of the program.
 #[derive(Drop)]
 pub(crate) struct SequenceRows {
     start: Option<u32>,

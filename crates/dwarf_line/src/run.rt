@@ -10,6 +10,9 @@ use crate::program::{read_opcode, start};
 use crate::sequence::Collector;
 use prof_bytes::{Fail, Reader};
 
+/// The run that keeps rows.
+struct Kept;
+
 /// Runs a program to its end, and collects its sequences that count.
 pub(crate) fn run(
     encoding: &LineEncoding<'_>,
@@ -27,7 +30,7 @@ pub(crate) fn run(
         if program.left() == 0 {
             return Ok(());
         }
-        let effect = read_opcode(encoding, registers, program)?;
+        let effect = read_opcode::<Kept>(encoding, registers, program)?;
         collector.add_some(effect.row)?;
         registers = effect.registers;
     }

@@ -68,6 +68,9 @@ fn seen_effect(
     }
 }
 
+/// The run that looks for a row.
+struct Searched;
+
 /// Runs a program to its end, and looks for the row in force at an address. Takes no memory.
 pub(crate) fn search(
     encoding: &LineEncoding<'_>,
@@ -89,7 +92,7 @@ pub(crate) fn search(
         if program.left() == 0 {
             return Ok(found);
         }
-        let effect = read_opcode(encoding, registers, program)?;
+        let effect = read_opcode::<Searched>(encoding, registers, program)?;
         found = seen_effect(segments, address, found, effect.row);
         registers = effect.registers;
     }
