@@ -52,26 +52,20 @@ struct Attributes {
 }
 
 /// Whether an entry has these attributes.
-fn is_entry(
-    alloc: Global,
-    info: &Info<'_>,
-    entries: &[InfoEntry],
-    number: u32,
-    wanted: &Attributes,
-) -> bool {
-    if number >= info.entry_count() {
-        return false;
-    }
-    let Ok(ranges) = info.ranges(alloc, number) else {
+fn is_entry(alloc: Global, info: &Info<'_>, number: u32, wanted: &Attributes) -> bool {
+    let Some(entry) = info.entry(number) else {
         return false;
     };
-    let link = match info.link(number) {
-        Some(target) => entries.get(target as usize).map(|e| e.offset),
+    let Ok(ranges) = entry.ranges(alloc) else {
+        return false;
+    };
+    let link = match entry.link() {
+        Some(target) => Some(target.offset()),
         None => None,
     };
-    info.name(number) == wanted.name
+    entry.name() == wanted.name
         && link == wanted.link
-        && info.call(number) == wanted.call
+        && entry.call() == wanted.call
         && ranges.pairs() == wanted.ranges
 }
 
@@ -86,7 +80,7 @@ fn stands(
     for number in 0..info.entry_count() {
         match entries.get(number as usize) {
             Some(entry) if (entry.offset, entry.depth, entry.tag) == at => {
-                return is_entry(alloc, info, entries, number, wanted);
+                return is_entry(alloc, info, number, wanted);
             }
             _ => {}
         }
@@ -158,7 +152,11 @@ fn have_tables(info: &Info<'_>, entries: &[InfoEntry]) -> bool {
             Some(entry) => info.units().get(entry.unit as usize).and_then(|u| u.table),
             None => None,
         };
-        if info.line_table(number) != table {
+        let found = match info.entry(number) {
+            Some(entry) => entry.line_table(),
+            None => None,
+        };
+        if found != table {
             return false;
         }
     }
@@ -170,7 +168,10 @@ fn is_outlined(info: &Info<'_>, outline: &Outline, wanted: (u32, u32, bool)) -> 
     for entry in outline.subroutines.as_slice() {
         let depth = outline.depths.get(entry.index as usize).copied();
         if (entry.offset, depth, entry.inlined) == (wanted.0, Some(wanted.1), wanted.2) {
-            return info.entry_offset(entry.index) == Some(entry.offset);
+            return match info.entry(entry.index) {
+                Some(found) => found.offset() == entry.offset,
+                None => false,
+            };
         }
     }
     false
@@ -311,13 +312,7 @@ fn holds(alloc: Global, with: &[Part], case: &Case) -> Result<bool, Unread> {
 /// The same in these sections.
 fn second_has(alloc: Global, sections: &Sections, has: &Has) -> Result<bool, Unread> {
     let info = info_of(alloc, sections)?;
-    second_is(alloc, &info, &wanted_of(has))
-}
-
-/// The same in this debug information.
-fn second_is(alloc: Global, info: &Info<'_>, wanted: &Attributes) -> Result<bool, Unread> {
-    let entries = info.entries(alloc)?;
-    Ok(is_entry(alloc, info, &entries, 1, wanted))
+    Ok(is_entry(alloc, &info, 1, &wanted_of(has)))
 }
 
 /// The first case that does not hold, where each has these parts besides its own.

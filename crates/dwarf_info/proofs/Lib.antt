@@ -14,3 +14,4 @@ pub mod FixedValues
 pub mod Suffixes
 pub mod Outlining
 pub mod CodeLists
+pub mod LocatedEntries

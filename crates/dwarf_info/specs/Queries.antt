@@ -24,6 +24,19 @@ unit_entry info i =
     option_and_then (λ e. option_map (λ b. record { entry = e; context = b }) (slice_get info.units e.«unit»))
     (slice_get info.entries i)
 
+-- an entry of debug information by its index, as it is asked for its attributes
+pub record EntryAt : Type 0 where
+  pub info : DebugInfo
+  pub index : ℕ
+
+-- the one with an index
+abbrev pub entry_with : DebugInfo → ℕ → EntryAt
+entry_with info i = record { info = info; index = i }
+
+-- the one with an index, if there is one
+abbrev pub entry_at : DebugInfo → ℕ → Option EntryAt
+entry_at info i = option_map (λ e. entry_with info i) (slice_get info.entries i)
+
 -- the first value of one of its attributes
 abbrev pub attribute_value : DebugInfo → ℕ → UnitEntry → Option FormValue
 attribute_value info attribute e =

@@ -1,45 +1,35 @@
 //! Debug information that was read, and the attributes of its entries.
-ghost use Rattle.std.specs.Prelude.{◌≡◌, ◌<◌, ◌^◌, length, map, IfOk, option_map};
-ghost use Rattle.std.specs.Prelude.{option_copied, option_and_then, IfSome, slice_get, AllPairs, ◌+◌};
+ghost use Rattle.std.specs.Prelude.{◌≡◌, ◌<◌, ◌^◌, length, map, IfOk, option_map, Some};
+ghost use Rattle.std.specs.Prelude.{option_copied, option_and_then, slice_get, AllPairs, ◌+◌};
 ghost use Rattle.prof_bytes.specs.Outcome.{Gives};
 ghost use Rattle.dwarf_forms.specs.Values.{form_value};
 ghost use Rattle.dwarf_info.specs.Sections.{sections_of};
 ghost use Rattle.dwarf_info.specs.Units.{unit_of, debug_info_of};
 ghost use Rattle.dwarf_info.specs.Queries.{unit_entry, attribute_value, attribute_text, attribute_entry};
-ghost use Rattle.dwarf_info.specs.Queries.{attribute_number, name_of, link_of, call_site_of};
+ghost use Rattle.dwarf_info.specs.Queries.{attribute_number, entry_at, entry_with};
 ghost use Rattle.dwarf_info.specs.Subroutines.{item_entries, subroutine_entry};
-ghost use Rattle.dwarf_info.specs.Ranges.{attribute_ranges, low_pc_of, low_high_of, one_or_none, ranges_of};
-ghost use Rattle.dwarf_info.specs.private.Located.{IsLocated, found_unit, own_unit};
+ghost use Rattle.dwarf_info.specs.Ranges.{attribute_ranges, low_pc_of, low_high_of, ranges_of};
+ghost use Rattle.dwarf_info.specs.private.Located.{IsLocated};
 
 use crate::attributes::{address_value, constant_value, text_value};
-use crate::constants::{
-    DW_AT_abstract_origin, DW_AT_call_file, DW_AT_call_line, DW_AT_high_pc, DW_AT_linkage_name,
-    DW_AT_low_pc, DW_AT_name, DW_AT_ranges, DW_AT_specification,
-};
+use crate::constants::{DW_AT_high_pc, DW_AT_low_pc, DW_AT_ranges};
 use crate::entry::{InfoEntry, Unit, UnitContext};
 use crate::fault::InfoFault;
 use crate::indices::referred;
-use crate::offsets::{Offsets, count_up_to};
-use crate::outline::{Outline, add_outline};
-use crate::pairs::Ranges;
+use crate::located::{Entry, Located};
+use crate::offsets::{Offsets, count_near};
+use crate::outline::{Outline, SubroutineEntry, add_outline};
 use crate::ranges::{high_pc_value, ranges_at, rnglist_offset};
 use crate::starts::Starts;
 use crate::tables::Tables;
-use crate::unit_entries::{add_entries, tabled_value};
+use crate::unit_entries::{add_entries, declared_at, tabled_value};
 use crate::units::{named_tables, read_units};
+use crate::values::value_after;
 use dwarf_forms::Value;
 use elf_image::DebugParts;
 use prof_bytes::{Fail, Memory};
 use std::alloc::Global;
 use std::marker::Model;
-
-/// An entry: its index, its unit and its offset.
-#[derive(Clone, Copy)]
-pub(crate) struct Located<'i> {
-    index: u32,
-    context: &'i UnitContext,
-    offset: u32,
-}
 
 /// Debug information that was read (DWARF 5, section 7.5). It borrows the sections' bytes.
 #[derive(Drop)]
@@ -117,125 +107,103 @@ impl<'a> Info<'a> {
         Ok(outline)
     }
 
-    /// The offset in `.debug_info` of the entry with index `i`.
-    pub fn entry_offset(&self, i: u32) -> Option<u32>
-        ensures { result ≡ option_map (λ e. e.offset) (slice_get self.now.entries i) }
-    {
-        self.offsets.get(i)
-    }
-
-    /// The offset in `.debug_line` of the line table of the unit of the entry with index `i`.
-    pub fn line_table(&self, i: u32) -> Option<u32>
-        ensures { result ≡ option_and_then (λ e. e.context.stmt_list) (unit_entry self.now i) }
-    {
-        let at = self.located(i)?;
-        at.context.stmt_list
-    }
-
-    /// The name of the entry with index `i` (DWARF 5, section 2.15), or else its linkage name (section 2.22).
-    pub fn name(&self, i: u32) -> Option<&'a [u8]>
-        requires { i < length self.now.entries }
-        ensures { option_copied result ≡ name_of self.now i }
-    {
-        let at = self.located(i)?;
-        match self.text(at, DW_AT_name) {
-            Some(name) => Some(name),
-            None => self.text(at, DW_AT_linkage_name),
-        }
-    }
-
-    /// The index of the entry that the entry with index `i` refers to: its abstract origin (DWARF 5, section 3.3.8.2),
-    /// or else its specification (section 2.13.2).
-    #[tactic(auto, using(crate::proofs::Bounds::link_bound))]
-    pub fn link(&self, i: u32) -> Option<u32>
-        requires { i < length self.now.entries }
-        ensures link { result ≡ link_of self.now i }
-        ensures in_range { IfSome result (λ j. j < length self.now.entries) }
-    {
-        let at = self.located(i)?;
-        match self.reference(at, DW_AT_abstract_origin) {
-            Some(entry) => Some(entry),
-            None => self.reference(at, DW_AT_specification),
-        }
-    }
-
-    /// The number of the file in its unit's line table, and the line, of the call of the inlined subroutine with index
-    /// `i` (DWARF 5, section 3.3.8.2).
-    pub fn call(&self, i: u32) -> (Option<u32>, Option<u32>)
-        requires { i < length self.now.entries }
-        ensures { result ≡ call_site_of self.now i }
-    {
-        match self.located(i) {
-            Some(at) => (
-                self.constant(at, DW_AT_call_file),
-                self.constant(at, DW_AT_call_line),
-            ),
-            None => (None, None),
-        }
-    }
-
-    /// The entry with an index, its unit and its offset.
-    #[inline(always)]
-    fn located(&self, i: u32) -> Option<Located<'_>>
-        ensures entry { option_map found_unit result ≡ option_map own_unit (unit_entry self.now i) }
-        ensures index { IfSome result (λ l. l.index ≡ i) }
+    /// The entry with index `i`, found by a binary search; `None` where there is none.
+    pub fn entry(&self, i: u32) -> Option<Entry<'_, 'a>>
+        ensures { result ≡ entry_at self.now i }
     {
         let offset = self.offsets.get(i)?;
-        let unit = count_up_to(self.firsts.as_slice(), i).checked_sub(1)?;
-        Some(Located {
+        let at = self.located(i, offset, 0);
+        Some(Entry { info: self, at })
+    }
+
+    /// The entry of a subprogram or an inlined subroutine. Whether it is of the unit with index `near` is looked at before
+    /// its unit is searched for; the answer is the same with each number.
+    pub fn entry_of(&self, item: &SubroutineEntry, near: usize) -> Entry<'_, 'a>
+        requires { option_map (λ e. e.offset) (slice_get self.now.entries item.now.index) ≡ Some item.now.offset }
+        ensures { result ≡ entry_with self.now item.now.index }
+    {
+        let at = self.located(item.index, item.offset, near);
+        Entry { info: self, at }
+    }
+
+    /// Where the entry with an index and an offset is; the unit with index `near` is tried first.
+    #[inline(always)]
+    fn located(&self, i: u32, offset: u32, near: usize) -> Located<'_>
+        requires { option_map (λ e. e.offset) (slice_get self.now.entries i) ≡ Some offset }
+        ensures is { IsLocated self.now result }
+        ensures index { result.index ≡ i }
+    {
+        let unit = count_near(self.firsts.as_slice(), i, near) - 1;
+        let context = &self.contexts[unit];
+        let declared = declared_at(&self.sections, &self.tables, context, offset);
+        Located {
             index: i,
-            context: &self.contexts[unit],
+            unit,
+            context,
             offset,
-        })
+            declared,
+        }
     }
 
     /// The first value of an attribute of an entry.
     #[inline(always)]
-    fn value(&self, at: Located<'_>, attribute: u64) -> Option<Value<'a>>
-        requires { IsLocated self.now at }
+    fn value(&self, at: &Located<'_>, attribute: u64) -> Option<Value<'a>>
+        requires { IsLocated self.now at.now }
         ensures { option_map form_value result
-            ≡ option_and_then (attribute_value self.now attribute) (unit_entry self.now at.entry.index) }
+            ≡ option_and_then (attribute_value self.now attribute) (unit_entry self.now at.now.index) }
     {
-        tabled_value(
-            &self.sections,
-            &self.tables,
-            at.context,
-            at.offset,
-            attribute,
-        )
+        let context = at.context;
+        match at.declared {
+            Some(declared) => {
+                let specs = declared.by.specs.as_slice();
+                let end = context.header.end;
+                value_after(self.sections.info, end, declared.first, specs, attribute)
+            }
+            None => tabled_value(&self.sections, &self.tables, context, at.offset, attribute),
+        }
     }
 
-    fn text(&self, at: Located<'_>, attribute: u64) -> Option<&'a [u8]>
-        requires { IsLocated self.now at }
+    #[inline(always)]
+    pub(crate) fn text(&self, at: &Located<'_>, attribute: u64) -> Option<&'a [u8]>
+        requires { IsLocated self.now at.now }
         ensures { option_copied result
-            ≡ option_and_then (attribute_text self.now attribute) (unit_entry self.now at.entry.index) }
+            ≡ option_and_then (attribute_text self.now attribute) (unit_entry self.now at.now.index) }
     {
         let value = self.value(at, attribute)?;
         text_value(&self.sections, at.context.str_offsets_base, value)
     }
 
-    fn reference(&self, at: Located<'_>, attribute: u64) -> Option<u32>
-        requires { IsLocated self.now at }
-        ensures { result ≡ option_and_then (attribute_entry self.now attribute) (unit_entry self.now at.entry.index) }
+    #[inline(always)]
+    pub(crate) fn reference(&self, at: &Located<'_>, attribute: u64) -> Option<u32>
+        requires { IsLocated self.now at.now }
+        ensures { result ≡ option_and_then (attribute_entry self.now attribute) (unit_entry self.now at.now.index) }
     {
         let value = self.value(at, attribute)?;
         referred(&self.offsets, at.context.header.offset, value)
     }
 
-    fn constant(&self, at: Located<'_>, attribute: u64) -> Option<u32>
-        requires { IsLocated self.now at }
-        ensures { result ≡ attribute_number self.now attribute at.entry.index }
+    pub(crate) fn constant(&self, at: &Located<'_>, attribute: u64) -> Option<u32>
+        requires { IsLocated self.now at.now }
+        ensures { result ≡ attribute_number self.now attribute at.now.index }
     {
         let value = self.value(at, attribute)?;
         constant_value(value)
     }
 
     /// The ranges of the list that `DW_AT_ranges` gives, unless it is malformed.
-    fn range_list(&self, alloc: Global, at: Located<'_>) -> Result<Option<Vec<(u32, u32)>>, Memory>
-        requires { IsLocated self.now at }
-        ensures { IfOk result (λ o. option_map (λ v. v.items) o
-            ≡ option_and_then (attribute_ranges self.now) (unit_entry self.now at.entry.index)) }
+    #[tactic(auto, using(crate::proofs::Bounds::ranges_bound))]
+    pub(crate) fn range_list(
+        &self,
+        alloc: Global,
+        at: &Located<'_>,
+    ) -> Result<Option<Vec<(u32, u32)>>, Memory>
+        requires { IsLocated self.now at.now }
+        ensures list { IfOk result (λ o. option_map (λ v. v.items) o
+            ≡ option_and_then (attribute_ranges self.now) (unit_entry self.now at.now.index)) }
+        ensures few { length (ranges_of self.now at.now.index) < 2 ^ 31 }
     {
+        // The bound rests on the sections, which the checker sees once they are named.
+        let _ = &self.sections;
         let Some(value) = self.value(at, DW_AT_ranges) else {
             return Ok(None);
         };
@@ -246,53 +214,25 @@ impl<'a> Info<'a> {
         }
     }
 
-    fn low_pc(&self, at: Located<'_>) -> Option<u32>
-        requires { IsLocated self.now at }
-        ensures { result ≡ option_and_then (low_pc_of self.now) (unit_entry self.now at.entry.index) }
+    #[inline(always)]
+    fn low_pc(&self, at: &Located<'_>) -> Option<u32>
+        requires { IsLocated self.now at.now }
+        ensures { result ≡ option_and_then (low_pc_of self.now) (unit_entry self.now at.now.index) }
     {
         let value = self.value(at, DW_AT_low_pc)?;
         address_value(&self.sections, at.context.addr_base, value)
     }
 
     /// The range from `DW_AT_low_pc` to `DW_AT_high_pc`.
-    fn low_high_pc(&self, at: Located<'_>) -> Option<(u32, u32)>
-        requires { IsLocated self.now at }
-        ensures { result ≡ option_and_then (low_high_of self.now) (unit_entry self.now at.entry.index) }
+    pub(crate) fn low_high_pc(&self, at: &Located<'_>) -> Option<(u32, u32)>
+        requires { IsLocated self.now at.now }
+        ensures { result ≡ option_and_then (low_high_of self.now) (unit_entry self.now at.now.index) }
     {
         let low = self.low_pc(at)?;
         let value = self.value(at, DW_AT_high_pc)?;
         let high = high_pc_value(&self.sections, at.context.addr_base, low, value)?;
         Some((low, high))
     }
-
-    /// The address ranges of the entry with index `i` (DWARF 5, section 2.17): those of `DW_AT_ranges`, or else the one
-    /// from `DW_AT_low_pc` to `DW_AT_high_pc`. Empty ranges are among them.
-    #[tactic(auto, using(crate::proofs::Bounds::ranges_bound))]
-    pub fn ranges(&self, alloc: Global, i: u32) -> Result<Ranges, Memory>
-        requires { i < length self.now.entries }
-        ensures ranges { IfOk result (λ ranges. ranges ≡ ranges_of self.now i) }
-        ensures few { length (ranges_of self.now i) < 2 ^ 31 }
-    {
-        // The bound rests on the sections, which the checker sees once they are named.
-        let _ = &self.sections;
-        let Some(at) = self.located(i) else {
-            return one_or_none(alloc, None);
-        };
-        match self.range_list(alloc, at)? {
-            Some(pairs) => Ok(Ranges::from_vec(pairs)),
-            None => one_or_none(alloc, self.low_high_pc(at)),
-        }
-    }
-}
-
-fn one_or_none(alloc: Global, range: Option<(u32, u32)>) -> Result<Ranges, Memory>
-    ensures { IfOk result (λ ranges. ranges ≡ one_or_none range) }
-{
-    let mut pairs = Vec::new(alloc);
-    if let Some(range) = range {
-        pairs.push(range)?;
-    }
-    Ok(Ranges::from_vec(pairs))
 }
 
 fn shown_units(alloc: Global, contexts: &[UnitContext]) -> Result<Vec<Unit>, Memory>

@@ -1,5 +1,5 @@
 //! The offsets of entries, found by their index, and their indices by their offset.
-ghost use Rattle.std.specs.Prelude.{◌≡◌, ◌==◌, ◌+◌, ◌<◌, ◌^◌, ℕ, length, filter, IfOk, position, slice_get};
+ghost use Rattle.std.specs.Prelude.{◌≡◌, ◌==◌, ◌+◌, ◌<◌, ◌^◌, ℕ, true, length, filter, IfOk, position, slice_get};
 ghost use Rattle.std.specs.List.Sorted.{IsNonDecreasingBy};
 ghost use Rattle.dwarf_info.specs.private.Starts.{AreCounts, AreListed, IsCountUpTo, set_from};
 
@@ -66,6 +66,34 @@ pub(crate) fn count_up_to(numbers: &[u32], most: u32) -> usize
     ensures { IsCountUpTo most numbers.now result }
 {
     numbers.partition_point(|number| *number <= most)
+}
+
+/// Whether just the numbers up to the one with an index are at most `most`; the numbers never fall.
+#[inline(always)]
+fn is_count(numbers: &[u32], most: u32, last: usize) -> bool
+    requires { IsNonDecreasingBy (λ n. n) numbers.now }
+    ensures { result ≡ true → IsCountUpTo most numbers.now (last + 1) }
+{
+    if last >= numbers.len() || numbers[last] > most {
+        return false;
+    }
+    let next = last + 1;
+    if next < numbers.len() {
+        return numbers[next] > most;
+    }
+    true
+}
+
+/// The same as `count_up_to`, where `near + 1` is tried before the search.
+#[inline(always)]
+pub(crate) fn count_near(numbers: &[u32], most: u32, near: usize) -> usize
+    requires { IsNonDecreasingBy (λ n. n) numbers.now }
+    ensures { IsCountUpTo most numbers.now result }
+{
+    if is_count(numbers, most, near) {
+        return near + 1;
+    }
+    count_up_to(numbers, most)
 }
 
 /// The index of an offset among those of the flags that are set.

@@ -1,5 +1,5 @@
 //! The entries of a unit that was read, and the values of their attributes, by its abbreviation table.
-ghost use Rattle.std.specs.Prelude.{◌≡◌, ◌<◌, ◌^◌, ◌++◌, Ok, OnOk, List, length, option_map};
+ghost use Rattle.std.specs.Prelude.{◌≡◌, ◌<◌, ◌^◌, ◌++◌, Ok, OnOk, IfSome, List, length, option_map};
 ghost use Rattle.dwarf_forms.specs.declared.value.FormFault.TheVariants.{Short};
 ghost use Rattle.dwarf_forms.specs.declared.declaration.BadTable.{BadTable};
 ghost use Rattle.dwarf_forms.specs.declared.declaration.Spec.{Spec};
@@ -10,12 +10,14 @@ ghost use Rattle.dwarf_info.specs.Sections.{sections_of, section_up_to};
 ghost use Rattle.dwarf_info.specs.Values.{value_of, values_from, entry_values};
 ghost use Rattle.dwarf_info.specs.Units.{or_none, entries_in};
 ghost use Rattle.dwarf_info.specs.private.Indexed.{IsRead};
+ghost use Rattle.dwarf_info.specs.private.Located.{IsDeclaredAt};
 ghost use Rattle.dwarf_info.specs.private.Tables.{AreTables};
 
 use crate::attributes::bytes_before;
 use crate::entries::read_entries;
 use crate::entry::{InfoEntry, UnitContext};
 use crate::fault::InfoFault;
+use crate::located::DeclaredAt;
 use crate::tables::{Tables, read_again};
 use crate::units::value_at;
 use crate::values::value_beside;
@@ -84,6 +86,30 @@ pub(crate) fn tabled_value<'a>(
             listed_value(&mut reader, sections.abbrev, tables, context, attribute)
         }
     }
+}
+
+/// The declaration of the entry at an offset of a unit, and where the entry's first value is; `None` where the unit's table
+/// is not kept.
+#[inline(always)]
+pub(crate) fn declared_at<'i>(
+    sections: &DebugParts<'_>,
+    tables: &'i Tables,
+    context: &UnitContext,
+    offset: u32,
+) -> Option<DeclaredAt<'i>>
+    requires { AreTables sections.now.«abbrev».now tables.now }
+    ensures { IfSome result (IsDeclaredAt (sections_of sections.now) context.now offset) }
+{
+    let header = context.header;
+    let table = tables.get(header.debug_abbrev_offset)?;
+    let bytes = bytes_before(sections.info, header.end);
+    let mut reader = reader_at(bytes, offset as usize, FormFault::Short).ok()?;
+    let Ok(code) = reader.uleb() else {
+        return None;
+    };
+    let by = table.find(code)?;
+    let first = reader.offset();
+    Some(DeclaredAt { by, first })
 }
 
 /// Reads the entries of a unit again by its table, and appends them.

@@ -1,14 +1,17 @@
 //! The values of one entry (DWARF 5, section 7.5.3).
-ghost use Rattle.std.specs.Prelude.{◌≡◌, ◌==◌, IfOk, find, option_copied, option_map, List, Ok};
+ghost use Rattle.std.specs.Prelude.{◌≡◌, ◌==◌, ◌≤◌, IfOk, find, length, option_copied, option_map, take, List, Ok};
 ghost use Rattle.prof_bytes.specs.Outcome.{GivesAt};
 ghost use Rattle.prof_bytes.specs.Fields.{bytes_from, Input};
 ghost use Rattle.dwarf_forms.specs.declared.declaration.BadTable.{BadTable};
 ghost use Rattle.dwarf_forms.specs.declared.declaration.Spec.{Spec};
+ghost use Rattle.dwarf_forms.specs.declared.value.FormFault.TheVariants.{Short};
 ghost use Rattle.dwarf_forms.specs.Abbreviations.{attributes_from};
 ghost use Rattle.dwarf_forms.specs.Sizes.{passed_by};
 ghost use Rattle.dwarf_forms.specs.Values.{form_value, value_from};
+ghost use Rattle.dwarf_info.specs.Sections.{section_up_to};
 ghost use Rattle.dwarf_info.specs.Values.{passed_from, values_from, value_of, entry_values};
 
+use crate::attributes::bytes_before;
 use crate::fault::InfoFault;
 use dwarf_forms::{BadTable, Declarations, FormFault, Spec, Specs, Value, read_form};
 use prof_bytes::Reader;
@@ -110,6 +113,42 @@ fn declared_value<'a>(
 {
     match spec_of(specs, attribute) {
         Some(_) => value_by(reader, specs, attribute),
+        None => None,
+    }
+}
+
+/// The first value of an attribute among those of a declaration, of which the first is at an offset.
+#[inline(never)]
+fn value_among<'a>(
+    bytes: &'a [u8],
+    first: usize,
+    specs: &[Spec],
+    attribute: u64,
+) -> Option<Value<'a>>
+    requires { first ≤ length bytes.now }
+    ensures { option_map form_value result ≡ value_of attribute
+        (values_from specs.now (record { at = record { whole = bytes.now; offset = first }; missing = Short })) }
+{
+    let mut reader = Reader::new(bytes, first, FormFault::Short);
+    value_by(&mut reader, specs, attribute)
+}
+
+/// The same in a unit that ends at `end`; where the declaration lacks the attribute, no value is read.
+#[tactic(auto, using(crate::proofs::OneValue::not_declared))]
+#[inline(always)]
+pub(crate) fn value_after<'a>(
+    info: &'a [u8],
+    end: u32,
+    first: usize,
+    specs: &[Spec],
+    attribute: u64,
+) -> Option<Value<'a>>
+    requires { first ≤ length (take end info.now) }
+    ensures { option_map form_value result ≡ value_of attribute
+        (values_from specs.now (section_up_to end info.now first Short)) }
+{
+    match spec_of(specs, attribute) {
+        Some(_) => value_among(bytes_before(info, end), first, specs, attribute),
         None => None,
     }
 }

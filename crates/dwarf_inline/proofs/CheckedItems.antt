@@ -7,8 +7,10 @@ use Rattle.prof_bytes.specs.declared.fail.Fail.{Fail}
 use Rattle.prof_bytes.specs.declared.fail.Fail.TheVariants.{Fault, Memory}
 use Rattle.prof_bytes.specs.Outcome.{FailsBy, ◌>>=◌}
 use Rattle.dwarf_info.specs.Units.{DebugInfo}
+use Rattle.dwarf_info.specs.Queries.{EntryAt, entry_with}
 use Rattle.dwarf_inline.specs.declared.fault.StructureFault.{StructureFault}
 use Rattle.dwarf_info.specs.Subroutines.{Indexed, is_inlined, subroutine_entry}
+use Rattle.dwarf_inline.specs.Links.{identity}
 use Rattle.dwarf_inline.specs.Nesting.{inlined_levels}
 use Rattle.dwarf_inline.specs.private.Levels.{checked_entry}
 use Rattle.dwarf_inline.specs.Structure.{checked_item, checked_items}
@@ -49,6 +51,11 @@ levels_told info e levels false is told = rw is refl
 pub entry_checked : (info : DebugInfo) (e : Indexed) (levels : ℕ) → (is_inlined e.1 ≡ true → inlined_levels info e ≡ levels)
     → checked_entry info (subroutine_entry e) levels ≡ checked_item info e
 entry_checked info e levels told = levels_told info e levels (is_inlined e.1) refl told
+
+-- the identity that was found by an item's entry
+pub identity_by : (info own : DebugInfo) (found : EntryAt) (i j : ℕ) → own ≡ info → i ≡ j → found ≡ entry_with own (identity own i) → found ≡ entry_with info (identity info j)
+identity_by info own found i j same index is =
+    is ∙ ap (λ (o : DebugInfo). entry_with o (identity o i)) same ∙ ap (λ (n : ℕ). entry_with info (identity info n)) index
 
 pub one_more : {Y : Type 0} (f : Indexed → Y) (items : List Indexed) (k : ℕ) (d : Indexed) (x : Y) (old new : List Y) → k < length items → x ≡ f (get_or items k d)
     → old ≡ map f (take k items) → new ≡ old ++ x ∷ [] → new ≡ map f (take (k + 1) items)

@@ -1,18 +1,19 @@
 -- Items as they are kept of the entries.
-use Rattle.std.proofs.Common.{◌≡◌, ℕ, ◌+◌, ◌<◌, ◌≤◌, Bool, true, false, List, [], ◌++◌, length, take, drop, map, get_or, inl, inr, refl, sym, ap, ◌∙◌, arith, length-take, length-drop}
-use Rattle.std.specs.Prelude.{filter, count_by, nat_lt}
+use Rattle.std.proofs.Common.{◌≡◌, ◌≢◌, ℕ, ◌+◌, ◌-◌, ◌<◌, ◌≤◌, Bool, true, false, List, [], ◌++◌, length, take, drop, map, get_or, inl, inr, refl, sym, ap, ◌∙◌, subst, arith, length-take, length-drop}
+use Rattle.std.specs.Prelude.{filter, count_by, nat_lt, option_map, slice_get, Option, Some}
 use Rattle.std.specs.List.Sorted.{IsNonDecreasingBy, IsPartitionPoint}
 use Rattle.std.proofs.lemmas.List.{length-map, get_or-map, get_or-take, get_or-drop, take-append-drop, append-nil, length-take-le}
 use Rattle.std.proofs.lemmas.List.Elements.{filter-append}
 use Rattle.std.proofs.lemmas.List.Sums.{length-filter}
-use Rattle.std.proofs.lemmas.Bool.{cases_lt}
+use Rattle.std.proofs.lemmas.Bool.{cases_lt, lt-ltb, le-ltb}
+use Rattle.dwarf_info.specs.declared.entry.InfoEntry.{InfoEntry}
 use Rattle.dwarf_info.specs.declared.outline.SubroutineEntry.{SubroutineEntry}
 use Rattle.dwarf_info.specs.Units.{DebugInfo}
 use Rattle.dwarf_info.specs.Subroutines.{Indexed, item_entries, subroutine_entry}
 use Rattle.dwarf_inline.specs.Nesting.{end_of, item_after}
 use Rattle.dwarf_inline.specs.private.Ends.{AreEndsFrom, depths_of}
-use Rattle.dwarf_inline.proofs.Lists.{filter_all, filter_none, count_map}
-use Rattle.dwarf_inline.proofs.Items.{item_within, items_ascending, items_below, item_end, item_end_within, end_there}
+use Rattle.dwarf_inline.proofs.Lists.{any_default, filter_all, filter_none, count_map}
+use Rattle.dwarf_inline.proofs.Items.{item_there, items_ascending, items_below, item_end, item_end_within, end_there}
 
 -- what is read behind the end of a list
 abbrev pub nothing : Indexed
@@ -33,10 +34,13 @@ pub kept_index : (info : DebugInfo) (items : List SubroutineEntry) (k : ℕ) (d 
     → (get_or items k d).index ≡ (get_or (item_entries info) k nothing).0
 kept_index info items k d same lt = ap (λ (s : SubroutineEntry). s.index) (kept_at info items k d same lt)
 
-pub kept_within : (info : DebugInfo) (items : List SubroutineEntry) (k : ℕ) (d : SubroutineEntry) → Kept info items → k < length items
-    → (get_or items k d).index < length info.entries
-kept_within info items k d same lt =
-    omega (arith, kept_index info items k d same lt, item_within info (item_entries info) k nothing refl (omega (arith, kept_long info items same)))
+pub kept_offset : (info : DebugInfo) (items : List SubroutineEntry) (k : ℕ) (d : SubroutineEntry) → Kept info items → k < length items
+    → option_map (λ (e : InfoEntry). e.offset) (slice_get info.entries (get_or items k d).index) ≡ Some (get_or items k d).offset
+kept_offset info items k d same lt =
+    let e : Indexed = get_or (item_entries info) k nothing in
+    let there : slice_get info.entries e.0 ≡ Some e.1 = item_there info (item_entries info) k nothing refl (omega (arith, kept_long info items same)) in
+    subst (λ (s : SubroutineEntry). option_map (λ (e : InfoEntry). e.offset) (slice_get info.entries s.index) ≡ Some s.offset) (sym (kept_at info items k d same lt))
+    (ap (λ (o : Option InfoEntry). option_map (λ (e : InfoEntry). e.offset) o) there)
 
 pub kept_rises : (info : DebugInfo) (items : List SubroutineEntry) → Kept info items → IsNonDecreasingBy (λ item. item.index) items
 kept_rises info items same i j d le lt =
@@ -64,6 +68,24 @@ pointed p xs n le point =
     ap (filter p) (sym (take-append-drop n xs)) ∙ filter-append p (take n xs) (drop n xs)
     ∙ ap (λ ys. ys ++ filter p (drop n xs)) front ∙ ap (λ ys. take n xs ++ ys) back ∙ append-nil (take n xs) in
     sym (ap length all ∙ length-take-le n xs le)
+
+-- those up to one that passes, where it is the last or those after it don't
+pub parted : (items : List SubroutineEntry) (end n : ℕ) (d : SubroutineEntry) → IsNonDecreasingBy (λ item. item.index) items → n ≢ 0 → n ≤ length items
+    → (get_or items (n - 1) d).index < end → ((k : ℕ) (e : SubroutineEntry) → n ≤ k → k < length items → end ≤ (get_or items k e).index)
+    → n ≡ length (filter (λ item. nat_lt item.index end) items)
+parted items end n d rise some le low high =
+    pointed (λ item. nat_lt item.index end) items n le (
+      (λ k e from near. lt-ltb _ _ (let up = rise k (n - 1) e (omega arith) (omega arith) in
+          let same = ap (λ (s : SubroutineEntry). s.index) (any_default items (n - 1) e d (omega arith)) in omega arith)),
+      (λ k e from within. le-ltb _ _ (high k e from within)),
+    )
+
+pub above_next : (items : List SubroutineEntry) (end n : ℕ) (d : SubroutineEntry) → IsNonDecreasingBy (λ item. item.index) items → n < length items → end ≤ (get_or items n d).index
+    → (k : ℕ) (e : SubroutineEntry) → n ≤ k → k < length items → end ≤ (get_or items k e).index
+above_next items end n d rise lt high k e from within =
+    let up = rise n k e from within in
+    let same = ap (λ (s : SubroutineEntry). s.index) (any_default items n e d lt) in
+    omega arith
 
 -- ---- the item after one
 

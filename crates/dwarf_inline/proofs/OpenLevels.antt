@@ -119,7 +119,7 @@ levels_now info items k d ends same lt open_ends inlined =
     ∙ ap (λ (n : ℕ). n + 1) (sym (open_ends e.0 seen))
 
 -- an item is checked by how many are open
-pub told : (info : DebugInfo) (items : List SubroutineEntry) (k : ℕ) (d : SubroutineEntry) (ends : List ℕ) → Kept info items → k < length items
+told : (info : DebugInfo) (items : List SubroutineEntry) (k : ℕ) (d : SubroutineEntry) (ends : List ℕ) → Kept info items → k < length items
     → AreOpen info (take k (item_entries info)) ends
     → checked_entry info (get_or items k d) (open_at (get_or items k d).index ends + 1) ≡ checked_item info (get_or (item_entries info) k nothing)
 told info items k d ends same lt open_ends =
@@ -134,3 +134,10 @@ pub opens_kept : (info : DebugInfo) (items : List SubroutineEntry) (k : ℕ) (d 
 opens_kept info items k d end old new same lt is so_far are =
     opens_more info (item_entries info) k nothing end old new (omega (arith, kept_long info items same)) is so_far
     (are ∙ ap (λ (s : SubroutineEntry). opened s end old) (kept_at info items k d same lt))
+
+-- the same of an entry of the same debug information
+pub told_of : (info own : DebugInfo) (items : List SubroutineEntry) (k : ℕ) (d : SubroutineEntry) (ends : List ℕ) → own ≡ info → Kept info items → k < length items
+    → AreOpen info (take k (item_entries info)) ends
+    → checked_entry own (get_or items k d) (open_at (get_or items k d).index ends + 1) ≡ checked_item info (get_or (item_entries info) k nothing)
+told_of info own items k d ends one same lt open_ends =
+    ap (λ (i : DebugInfo). checked_entry i (get_or items k d) (open_at (get_or items k d).index ends + 1)) one ∙ told info items k d ends same lt open_ends

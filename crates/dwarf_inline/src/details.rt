@@ -1,12 +1,13 @@
 //! The ranges of the items, and what they add to an item.
 ghost use Rattle.std.specs.Prelude.{◌≡◌, ◌+◌, ◌-◌, ◌<◌, ◌≤◌, ◌^◌, ◌++◌, ℕ, Some, None, true, length, map, slice_get};
-ghost use Rattle.std.specs.Prelude.{IfOk, OnOk};
+ghost use Rattle.std.specs.Prelude.{IfOk, option_map};
 ghost use Rattle.std.specs.List.{flat_map};
+ghost use Rattle.dwarf_info.specs.declared.outline.SubroutineEntry.{SubroutineEntry};
 ghost use Rattle.dwarf_info.specs.Subroutines.{item_entries, subroutine_entry};
 ghost use Rattle.dwarf_inline.specs.Structure.{counted_ranges, unit_line_table, call_row, call_at};
 ghost use Rattle.dwarf_inline.specs.private.Details.{ArePlaced, IsPlaced, detail_of};
 
-use dwarf_info::{Info, SubroutineEntry};
+use dwarf_info::{Entry, Info, SubroutineEntry};
 use dwarf_line::LineTable;
 use elf_image::Image;
 use prof_bytes::Memory;
@@ -45,17 +46,15 @@ pub(crate) struct RangeLists {
 /// Appends the ranges of an entry that count; the answer is their number.
 fn add_ranges(
     alloc: Global,
-    info: &Info<'_>,
+    entry: &Entry<'_, '_>,
     image: &Image<'_>,
-    index: u32,
     ranges: &mut Vec<(u32, u32)>,
 ) -> Result<u32, Memory>
-    requires { index < length info.now.entries }
     ensures ranges { IfOk result (λ _. ranges.new.items
-        ≡ ranges.old.items ++ counted_ranges info.now image.now index) }
-    ensures count { IfOk result (λ n. n ≡ length (counted_ranges info.now image.now index)) }
+        ≡ ranges.old.items ++ counted_ranges entry.now.info image.now entry.now.index) }
+    ensures count { IfOk result (λ n. n ≡ length (counted_ranges entry.now.info image.now entry.now.index)) }
 {
-    let all = info.ranges(alloc, index)?;
+    let all = entry.ranges(alloc)?;
     let pairs = all.pairs();
     let mut count = 0u32;
     for range in pairs {
@@ -68,11 +67,11 @@ fn add_ranges(
 }
 
 /// The line table of an entry's unit, where it is of version 5.
-fn line_table(sources: Sources<'_, '_, '_, '_>, index: u32) -> Option<u32>
-    ensures { result ≡ unit_line_table sources.entry.info.now sources.entry.lines.now index }
+fn line_table(lines: &LineTable<'_>, entry: &Entry<'_, '_>) -> Option<u32>
+    ensures { result ≡ unit_line_table entry.now.info lines.now entry.now.index }
 {
-    let table = sources.info.line_table(index)?;
-    if sources.lines.has_table(table) {
+    let table = entry.line_table()?;
+    if lines.has_table(table) {
         return Some(table);
     }
     None
@@ -93,13 +92,12 @@ fn call_row(table: Option<u32>, call: (Option<u32>, Option<u32>)) -> Option<Line
 }
 
 /// Where an inlined subroutine with these ranges is called.
-fn call_at(sources: Sources<'_, '_, '_, '_>, index: u32, ranges: &[(u32, u32)]) -> Option<LineId>
-    requires { index < length sources.info.now.entries }
-    ensures { result ≡ call_at sources.entry.info.now sources.entry.lines.now index ranges.now }
+fn call_at(lines: &LineTable<'_>, entry: &Entry<'_, '_>, ranges: &[(u32, u32)]) -> Option<LineId>
+    ensures { result ≡ call_at entry.now.info lines.now entry.now.index ranges.now }
 {
     match ranges {
         [] => None,
-        [first, ..] => match call_row(line_table(sources, index), sources.info.call(index)) {
+        [first, ..] => match call_row(line_table(lines, entry), entry.call()) {
             Some(row) => Some(row),
             None => Some(LineId::Address(first.0)),
         },
@@ -138,23 +136,24 @@ fn add_detail(details: &mut Vec<Detail>, detail: Detail) -> Result<u32, Memory>
     Ok(count as u32)
 }
 
-/// Appends the ranges of an item that count; the answer is what they add to it.
+/// Appends the ranges of an item, which has this entry, that count; the answer is what they add to it.
 fn read_detail(
     alloc: Global,
     sources: Sources<'_, '_, '_, '_>,
-    item: &SubroutineEntry,
+    entry: &Entry<'_, '_>,
+    inlined: bool,
     ranges: &mut Vec<(u32, u32)>,
 ) -> Result<Detail, Memory>
-    requires { item.now.index < length sources.info.now.entries }
     ensures ranges { IfOk result (λ _. ranges.new.items
-        ≡ ranges.old.items ++ counted_ranges sources.entry.info.now sources.entry.image.now item.now.index) }
-    ensures detail { IfOk result (λ detail. detail ≡ detail_of sources.entry.info.now sources.entry.lines.now
-        sources.entry.image.now (length ranges.old.items) item.now) }
+        ≡ ranges.old.items ++ counted_ranges entry.now.info sources.entry.image.now entry.now.index) }
+    ensures detail { (item : SubroutineEntry) → item.index ≡ entry.now.index → item.inlined ≡ inlined
+        → IfOk result (λ detail. detail ≡ detail_of entry.now.info sources.entry.lines.now sources.entry.image.now
+        (length ranges.old.items) item) }
 {
     let first = ranges.len();
-    let range_count = add_ranges(alloc, sources.info, sources.image, item.index, ranges)?;
-    let call = if item.inlined {
-        call_at(sources, item.index, &ranges[first..])
+    let range_count = add_ranges(alloc, entry, sources.image, ranges)?;
+    let call = if inlined {
+        call_at(sources.lines, entry, &ranges[first..])
     } else {
         None
     };
@@ -165,25 +164,29 @@ fn read_detail(
     })
 }
 
-/// Appends the ranges of an item that count, and its detail.
+/// Appends the ranges of an item that count, and its detail; the answer is the index of its unit, before which the unit
+/// with index `near` is tried.
 fn add_item(
     lists: &mut RangeLists,
     alloc: Global,
     sources: Sources<'_, '_, '_, '_>,
     item: &SubroutineEntry,
-) -> Result<(), Memory>
-    requires entry { item.now.index < length sources.info.now.entries }
+    near: usize,
+) -> Result<usize, Memory>
+    requires entry { option_map (λ e. e.offset) (slice_get sources.info.now.entries item.now.index)
+        ≡ Some item.now.offset }
     requires few { length lists.old.details.items < 2 ^ 31 }
-    ensures ranges { OnOk result (lists.new.ranges.items ≡ lists.old.ranges.items
+    ensures ranges { IfOk result (λ _. lists.new.ranges.items ≡ lists.old.ranges.items
         ++ counted_ranges sources.entry.info.now sources.entry.image.now item.now.index) }
-    ensures placed { OnOk result (IsPlaced lists.old.places.items lists.old.details.items
+    ensures placed { IfOk result (λ _. IsPlaced lists.old.places.items lists.old.details.items
         (detail_of sources.entry.info.now sources.entry.lines.now sources.entry.image.now
         (length lists.old.ranges.items) item.now) lists.new.places.items lists.new.details.items) }
 {
-    let detail = read_detail(alloc, sources, item, &mut lists.ranges)?;
+    let entry = sources.info.entry_of(item, near);
+    let detail = read_detail(alloc, sources, &entry, item.inlined, &mut lists.ranges)?;
     let place = add_detail(&mut lists.details, detail)?;
     lists.places.push(place)?;
-    Ok(())
+    Ok(entry.unit())
 }
 
 /// The ranges of all items that count, and the details of the items.
@@ -205,8 +208,9 @@ pub(crate) fn read_lists(
         details: Vec::new(alloc),
         ranges: Vec::new(alloc),
     };
+    let mut near = 0;
     for item in items {
-        add_item(&mut lists, alloc, sources, item)?;
+        near = add_item(&mut lists, alloc, sources, item, near)?;
     }
     Ok(lists)
 }

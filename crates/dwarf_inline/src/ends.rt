@@ -1,5 +1,5 @@
 //! Where entries end, and the numbers of the items after them.
-ghost use Rattle.std.specs.Prelude.{◌≡◌, ◌+◌, ◌<◌, ◌^◌, nat_lt, filter, length, map, IfOk};
+ghost use Rattle.std.specs.Prelude.{◌≡◌, ◌+◌, ◌<◌, ◌^◌, true, nat_lt, filter, length, map, IfOk};
 ghost use Rattle.std.specs.List.Sorted.{IsNonDecreasingBy};
 ghost use Rattle.dwarf_info.specs.Subroutines.{item_entries, subroutine_entry};
 ghost use Rattle.dwarf_inline.specs.Nesting.{item_after};
@@ -56,6 +56,33 @@ fn count_below(items: &[SubroutineEntry], end: u32) -> usize
     items.partition_point(|item| item.index < end)
 }
 
+/// Whether just the first `count` items, of which there is one or more, have an index below `end`.
+#[inline(always)]
+fn are_below(items: &[SubroutineEntry], end: u32, count: usize) -> bool
+    requires { IsNonDecreasingBy (λ item. item.index) items.now }
+    ensures { result ≡ true → count ≡ length (filter (λ item. nat_lt item.index end) items.now) }
+{
+    if count == 0 || count > items.len() || items[count - 1].index >= end {
+        return false;
+    }
+    if count < items.len() {
+        return items[count].index >= end;
+    }
+    true
+}
+
+/// The same as `count_below`, where the number `near` is tried before the search.
+#[inline(always)]
+fn count_below_near(items: &[SubroutineEntry], end: u32, near: usize) -> usize
+    requires { IsNonDecreasingBy (λ item. item.index) items.now }
+    ensures { result ≡ length (filter (λ item. nat_lt item.index end) items.now) }
+{
+    if are_below(items, end, near) {
+        return near;
+    }
+    count_below(items, end)
+}
+
 /// For each item the number of the first later item that is not a descendant of it.
 pub(crate) fn afters_of(
     alloc: Global,
@@ -71,7 +98,8 @@ pub(crate) fn afters_of(
     let mut afters = Vec::new(alloc);
     for item in items {
         let end = ends[item.index as usize];
-        afters.push(count_below(items, end) as u32)?;
+        let after = count_below_near(items, end, afters.len() + 1);
+        afters.push(after as u32)?;
     }
     Ok(afters)
 }

@@ -1,10 +1,10 @@
 //! The identities of items, and their names.
-ghost use Rattle.std.specs.Prelude.{◌≡◌, ◌==◌, ◌<◌, ◌++◌, ◌∷◌, [], length, map, find, option_map, option_to_list, OnOk};
+ghost use Rattle.std.specs.Prelude.{◌≡◌, ◌==◌, ◌++◌, ◌∷◌, [], map, find, option_map, option_to_list, OnOk};
 ghost use Rattle.std.specs.List.Sorted.{IsNonDecreasingBy, IsPermutation};
 ghost use Rattle.dwarf_inline.specs.Links.{entry_offset};
 ghost use Rattle.dwarf_inline.specs.private.Names.{named, pair_of};
 
-use dwarf_info::Info;
+use dwarf_info::Entry;
 use prof_bytes::Memory;
 use scope_types::cut_name;
 use std::alloc::Global;
@@ -39,49 +39,42 @@ impl<'a> Identities<'a> {
     }
 }
 
-/// The offset of the entry with an index.
-fn offset_of(info: &Info<'_>, index: u32) -> u32
-    ensures { result ≡ entry_offset info.now index }
-{
-    match info.entry_offset(index) {
-        Some(offset) => offset,
-        None => 0,
-    }
-}
-
 /// Appends the name of an entry, if it has one.
 fn add_name<'a>(
     names: &mut Vec<ProcName<'a>>,
-    info: &Info<'a>,
-    index: u32,
+    entry: &Entry<'_, 'a>,
     identity: u32,
 ) -> Result<(), Memory>
-    requires { index < length info.now.entries }
     ensures { OnOk result (map pair_of names.new.items
-        ≡ map pair_of names.old.items ++ option_to_list (named info.now index identity)) }
+        ≡ map pair_of names.old.items ++ option_to_list (named entry.now.info entry.now.index identity)) }
 {
-    if let Some(name) = info.name(index) {
+    if let Some(name) = entry.name() {
         let name = cut_name(name);
         names.push(ProcName { identity, name })?;
     }
     Ok(())
 }
 
-/// Appends an identity, the entry with this index, with its name.
+/// The offset of an entry.
+fn offset_of(entry: &Entry<'_, '_>) -> u32
+    ensures { result ≡ entry_offset entry.now.info entry.now.index }
+{
+    entry.offset()
+}
+
+/// Appends an identity with its name.
 pub(crate) fn add_identity<'a>(
     identities: &mut Identities<'a>,
-    info: &Info<'a>,
-    index: u32,
+    entry: &Entry<'_, 'a>,
 ) -> Result<(), Memory>
-    requires { index < length info.now.entries }
     ensures offsets { OnOk result (identities.new.offsets.items
-        ≡ identities.old.offsets.items ++ entry_offset info.now index ∷ []) }
+        ≡ identities.old.offsets.items ++ entry_offset entry.now.info entry.now.index ∷ []) }
     ensures names { OnOk result (map pair_of identities.new.names.items ≡ map pair_of identities.old.names.items
-        ++ option_to_list (named info.now index (entry_offset info.now index))) }
+        ++ option_to_list (named entry.now.info entry.now.index (entry_offset entry.now.info entry.now.index))) }
 {
-    let offset = offset_of(info, index);
+    let offset = offset_of(entry);
     identities.offsets.push(offset)?;
-    add_name(&mut identities.names, info, index, offset)
+    add_name(&mut identities.names, entry, offset)
 }
 
 /// Sorts names by their identities.

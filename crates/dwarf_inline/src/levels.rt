@@ -1,7 +1,8 @@
 //! The faults of items: too many links, and subroutines that are inlined too deep.
-ghost use Rattle.std.specs.Prelude.{◌≡◌, ◌+◌, ◌<◌, ◌++◌, ◌∷◌, [], nat_lt, length, map, filter, IfOk};
+ghost use Rattle.std.specs.Prelude.{◌≡◌, ◌+◌, ◌++◌, ◌∷◌, [], nat_lt, map, filter, IfOk};
 ghost use Rattle.std.specs.List.{flat_map};
 ghost use Rattle.prof_bytes.specs.Outcome.{Gives};
+ghost use Rattle.dwarf_info.specs.Queries.{entry_with};
 ghost use Rattle.dwarf_info.specs.Subroutines.{item_entries, subroutine_entry};
 ghost use Rattle.dwarf_inline.specs.Links.{identity, identity_offset};
 ghost use Rattle.dwarf_inline.specs.Structure.{checked_items};
@@ -12,7 +13,7 @@ ghost use Rattle.dwarf_inline.specs.private.Names.{named_item, pair_of};
 use crate::fault::StructureFault;
 use crate::identities::{Identities, add_identity};
 use crate::links::identity_of;
-use dwarf_info::{Info, SubroutineEntry};
+use dwarf_info::{Entry, Info, SubroutineEntry};
 use prof_bytes::{Fail, Memory};
 use std::alloc::Global;
 
@@ -30,18 +31,18 @@ fn open_level(open_ends: &mut Vec<u32>, index: u32, end: u32) -> Result<usize, M
     Ok(open_ends.len())
 }
 
-/// The identity of an item, unless it is at fault; `open_ends` has the ends of inlined subroutines before it.
-fn checked_item(
-    info: &Info<'_>,
+/// The identity of an item, whose entry is `start`, unless it is at fault; `open_ends` has the ends of inlined subroutines
+/// before it.
+fn checked_item<'i, 'a>(
+    start: Entry<'i, 'a>,
     item: &SubroutineEntry,
     end: u32,
     open_ends: &mut Vec<u32>,
-) -> Result<u32, Fail<StructureFault>>
-    requires entry { item.now.index < length info.now.entries }
+) -> Result<Entry<'i, 'a>, Fail<StructureFault>>
+    requires { start.index ≡ item.now.index }
     ensures gives { Gives (λ _. tt) result
-        (checked_entry info.now item.now (open_at item.now.index open_ends.old.items + 1)) }
-    ensures identity { IfOk result (λ i. i ≡ identity info.now item.now.index) }
-    ensures in_range { IfOk result (λ i. i < length info.now.entries) }
+        (checked_entry start.entry.info item.now (open_at item.now.index open_ends.old.items + 1)) }
+    ensures identity { IfOk result (λ i. i ≡ entry_with start.entry.info (identity start.entry.info item.now.index)) }
     ensures opened { IfOk result (λ _. open_ends.new.items ≡ opened item.now end open_ends.old.items) }
 {
     let SubroutineEntry {
@@ -49,7 +50,7 @@ fn checked_item(
         offset,
         inlined,
     } = *item;
-    let Some(identity) = identity_of(info, index) else {
+    let Some(identity) = identity_of(start) else {
         return Err(Fail::Fault(StructureFault::LinkCycle { offset }));
     };
     if inlined {
@@ -78,10 +79,13 @@ fn checked_items<'a>(
 {
     let mut open_ends = Vec::new(alloc);
     let mut identities = Identities::new(alloc);
+    let mut near = 0;
     for item in items {
+        let entry = info.entry_of(item, near);
+        near = entry.unit();
         let end = ends[item.index as usize];
-        let identity = checked_item(info, item, end, &mut open_ends)?;
-        add_identity(&mut identities, info, identity)?;
+        let identity = checked_item(entry, item, end, &mut open_ends)?;
+        add_identity(&mut identities, &identity)?;
     }
     Ok(identities)
 }

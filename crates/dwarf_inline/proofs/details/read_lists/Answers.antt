@@ -5,7 +5,7 @@ use Rattle.dwarf_info.specs.Subroutines.{Indexed, item_entries}
 use Rattle.dwarf_inline.specs.Structure.{counted_ranges}
 use Rattle.dwarf_inline.proofs.CheckedItems.{some_more}
 use Rattle.dwarf_inline.proofs.Items.{ranges_so_far}
-use Rattle.dwarf_inline.proofs.KeptEntries.{nothing, kept_long, kept_at, kept_index, kept_within}
+use Rattle.dwarf_inline.proofs.KeptEntries.{nothing, kept_long, kept_at, kept_index, kept_offset}
 use Rattle.dwarf_inline.proofs.DetailPlaces.{none_placed, one_placed}
 use Rattle.dwarf_inline.proofs.Whole.{few_items}
 use Rattle.dwarf_inline.proofs.details.read_lists.Goals as goal
@@ -14,7 +14,7 @@ pub loop-item-init : goal.loop-item-init
 loop-item-init c = rw (c.new.ensures.items, c.new-2.ensures.items, c.new-3.ensures.items) (record { placed = none_placed c.args.sources.info.now c.args.sources.lines.now c.args.sources.image.now; ranges = refl })
 
 pub add_item-requires-clause-entry : goal.add_item-requires-clause-entry
-add_item-requires-clause-entry c = kept_within c.args.sources.info.now c.args.items.now c.loop-item.item-index _ c.requires.items c.loop-item-test.true
+add_item-requires-clause-entry c = kept_offset c.args.sources.info.now c.args.items.now c.loop-item.item-index _ c.requires.items c.loop-item-test.true
 
 pub add_item-requires-clause-few : goal.add_item-requires-clause-few
 add_item-requires-clause-few c =
@@ -31,10 +31,10 @@ loop-item-preserved c =
       placed = one_placed info c.args.sources.lines.now image c.loop-item.item-index _ _ _ _ _ _ within c.loop-item.invariant.placed
           (ranges_so_far info image (item_entries info) c.loop-item.item-index nothing c.loop-item.lists.ranges.items refl within c.loop-item.invariant.ranges)
           (kept_at info c.args.items.now c.loop-item.item-index _ c.requires.items c.loop-item-test.true)
-          c.in_ok-add_item.ensures.placed;
+          c.in_ok-near.ensures.placed;
       ranges = some_more (λ (e : Indexed). counted_ranges info image e.0) (item_entries info) c.loop-item.item-index nothing _ c.loop-item.lists.ranges.items _ within
           (ap (counted_ranges info image) (kept_index info c.args.items.now c.loop-item.item-index _ c.requires.items c.loop-item-test.true))
-          c.loop-item.invariant.ranges c.in_ok-add_item.ensures.ranges;
+          c.loop-item.invariant.ranges c.in_ok-near.ensures.ranges;
     }
 
 pub returns-clause-places : goal.returns-clause-places

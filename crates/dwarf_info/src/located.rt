@@ -1,0 +1,140 @@
+//! An entry that was located, and its attributes.
+ghost use Rattle.std.specs.Prelude.{◌≡◌, ◌<◌, ◌^◌, length, IfOk, Some, option_map, option_copied, option_and_then};
+ghost use Rattle.std.specs.Prelude.{slice_get};
+ghost use Rattle.dwarf_info.specs.Queries.{unit_entry, entry_with, name_of, link_of, call_site_of};
+ghost use Rattle.dwarf_info.specs.Ranges.{one_or_none, ranges_of};
+
+use crate::constants::{
+    DW_AT_abstract_origin, DW_AT_call_file, DW_AT_call_line, DW_AT_linkage_name, DW_AT_name,
+    DW_AT_specification,
+};
+use crate::entry::UnitContext;
+use crate::info::Info;
+use crate::pairs::Ranges;
+use dwarf_forms::Abbrev;
+use prof_bytes::Memory;
+use std::alloc::Global;
+use std::marker::Model;
+
+/// The declaration of an entry, and the offset of the entry's first value.
+#[derive(Clone, Copy)]
+pub(crate) struct DeclaredAt<'i> {
+    pub(crate) by: &'i Abbrev,
+    pub(crate) first: usize,
+}
+
+/// An entry: its index, its unit with its index, its offset, and its declaration, where the unit's abbreviation table is
+/// kept.
+#[derive(Clone, Copy)]
+pub(crate) struct Located<'i> {
+    pub(crate) index: u32,
+    pub(crate) unit: usize,
+    pub(crate) context: &'i UnitContext,
+    pub(crate) offset: u32,
+    pub(crate) declared: Option<DeclaredAt<'i>>,
+}
+
+/// An entry of debug information (DWARF 5, section 2.1). Its unit and its declaration were found once; its values are
+/// read where they are asked for.
+#[derive(Drop)]
+pub struct Entry<'i, 'a> {
+    pub(crate) info: &'i Info<'a>,
+    pub(crate) at: Located<'i>,
+}
+
+impl<'i, 'a> Model for Entry<'i, 'a> {
+    ghost use Rattle.dwarf_info.specs.Queries.{EntryAt};
+    ghost use Rattle.dwarf_info.specs.private.Located.{IsLocated};
+
+    ghost Value = { EntryAt };
+
+    ghost view = { λ entry. record { info = entry.info.now; index = entry.at.index } };
+
+    ghost invariant = { λ entry. IsLocated entry.info.now entry.at };
+}
+
+impl<'i, 'a> Entry<'i, 'a> {
+    /// The index of its unit among those that were read.
+    pub fn unit(&self) -> usize
+        ensures { option_map (λ e. e.«unit») (slice_get self.now.info.entries self.now.index) ≡ Some result }
+    {
+        self.at.unit
+    }
+
+    /// Its offset in `.debug_info`.
+    pub fn offset(&self) -> u32
+        ensures { option_map (λ e. e.offset) (slice_get self.now.info.entries self.now.index) ≡ Some result }
+    {
+        self.at.offset
+    }
+
+    /// The offset in `.debug_line` of the line table of its unit.
+    pub fn line_table(&self) -> Option<u32>
+        ensures { result ≡ option_and_then (λ e. e.context.stmt_list) (unit_entry self.now.info self.now.index) }
+    {
+        self.at.context.stmt_list
+    }
+
+    /// Its name (DWARF 5, section 2.15), or else its linkage name (section 2.22).
+    pub fn name(&self) -> Option<&'a [u8]>
+        ensures { option_copied result ≡ name_of self.now.info self.now.index }
+    {
+        match self.info.text(&self.at, DW_AT_name) {
+            Some(name) => Some(name),
+            None => self.info.text(&self.at, DW_AT_linkage_name),
+        }
+    }
+
+    /// The index of the entry that it refers to.
+    fn link_index(&self) -> Option<u32>
+        ensures { result ≡ link_of self.now.info self.now.index }
+    {
+        match self.info.reference(&self.at, DW_AT_abstract_origin) {
+            Some(index) => Some(index),
+            None => self.info.reference(&self.at, DW_AT_specification),
+        }
+    }
+
+    /// The entry that it refers to: its abstract origin (DWARF 5, section 3.3.8.2), or else its specification (section
+    /// 2.13.2).
+    #[tactic(auto, using(crate::proofs::LocatedEntries::linked_there))]
+    pub fn link(&self) -> Option<Entry<'i, 'a>>
+        ensures { result ≡ option_map (entry_with self.now.info) (link_of self.now.info self.now.index) }
+    {
+        let index = self.link_index()?;
+        self.info.entry(index)
+    }
+
+    /// The number of the file in its unit's line table, and the line, of the call of an inlined subroutine (DWARF 5,
+    /// section 3.3.8.2).
+    pub fn call(&self) -> (Option<u32>, Option<u32>)
+        ensures { result ≡ call_site_of self.now.info self.now.index }
+    {
+        (
+            self.info.constant(&self.at, DW_AT_call_file),
+            self.info.constant(&self.at, DW_AT_call_line),
+        )
+    }
+
+    /// Its address ranges (DWARF 5, section 2.17): those of `DW_AT_ranges`, or else the one from `DW_AT_low_pc` to
+    /// `DW_AT_high_pc`. Empty ranges are among them.
+    pub fn ranges(&self, alloc: Global) -> Result<Ranges, Memory>
+        ensures ranges { IfOk result (λ ranges. ranges ≡ ranges_of self.now.info self.now.index) }
+        ensures few { length (ranges_of self.now.info self.now.index) < 2 ^ 31 }
+    {
+        match self.info.range_list(alloc, &self.at)? {
+            Some(pairs) => Ok(Ranges::from_vec(pairs)),
+            None => one_or_none(alloc, self.info.low_high_pc(&self.at)),
+        }
+    }
+}
+
+fn one_or_none(alloc: Global, range: Option<(u32, u32)>) -> Result<Ranges, Memory>
+    ensures { IfOk result (λ ranges. ranges ≡ one_or_none range) }
+{
+    let mut pairs = Vec::new(alloc);
+    if let Some(range) = range {
+        pairs.push(range)?;
+    }
+    Ok(Ranges::from_vec(pairs))
+}
