@@ -1,9 +1,7 @@
--- Entries that were located: their units, and those that they refer to.
-use Rattle.std.proofs.Common.{◌≡◌, inl, inr, ℕ, ◌+◌, ◌<◌, ◌≤◌, Bool, true, false, List, length, take, get_or, Option, Some, None, Result, Ok, Err, refl, sym, ap, ◌∙◌, subst, arith}
+-- Entries that were located: those that they refer to, and their declarations.
+use Rattle.std.proofs.Common.{◌≡◌, ℕ, ◌<◌, ◌≤◌, Bool, true, false, List, length, take, Option, Some, None, Result, Ok, Err, refl, sym, ap, ◌∙◌, subst, arith}
 use Rattle.std.specs.Prelude.{slice_get, option_map, option_and_then, IfSome, nat_le, if◌then◌else◌}
-use Rattle.std.specs.List.Sorted.{IsNonDecreasingBy}
 use Rattle.std.specs.Result.{result_ok}
-use Rattle.std.proofs.lemmas.Bool.{cases_lt}
 use Rattle.std.proofs.lemmas.Option.{slice_get-get_or, same_Some}
 use Rattle.prof_bytes.specs.Fields.{Input, taken, uleb_from}
 use Rattle.prof_bytes.specs.Reading.{left_of, moved}
@@ -21,64 +19,8 @@ use Rattle.dwarf_info.specs.Sections.{Sections, section_up_to}
 use Rattle.dwarf_info.specs.Values.{declaration_of, entry_values, coded_values, declared_values, values_from}
 use Rattle.dwarf_info.specs.Units.{DebugInfo, or_none}
 use Rattle.dwarf_info.specs.Queries.{entry_with, entry_at, link_of}
-use Rattle.dwarf_info.specs.private.Starts.{IsCountUpTo}
-use Rattle.dwarf_info.specs.private.Indexed.{AreFirsts}
 use Rattle.dwarf_info.specs.private.Located.{IsDeclaredAt}
 use Rattle.dwarf_info.proofs.Bounds.{link_bound}
-
--- ---- counts
-
-pub same_count : (most : ℕ) (numbers : List ℕ) (a b : ℕ) → IsCountUpTo most numbers a → IsCountUpTo most numbers b → a ≡ b
-same_count most numbers a b one other =
-    elim (cases_lt a b) [
-      | inl less ↦ (let w = other.within in let high = one.above a 0 (omega arith) (omega arith) in let low = other.below a 0 less in absurd (omega arith))
-      | inr ge ↦ elim (cases_lt b a) [
-        | inl more ↦ (let w = one.within in let high = other.above b 0 (omega arith) (omega arith) in let low = one.below b 0 more in absurd (omega arith))
-        | inr le ↦ omega arith
-      ]
-    ]
-
-any_default : (xs : List ℕ) (i d e : ℕ) → i < length xs → get_or xs i d ≡ get_or xs i e
-any_default xs i d e lt = same_Some _ _ (sym (slice_get-get_or xs i d lt) ∙ slice_get-get_or xs i e lt)
-
--- those after a number that is above another are above it
-pub above_next : (numbers : List ℕ) (most next d : ℕ) → IsNonDecreasingBy (λ n. n) numbers → next < length numbers → most < get_or numbers next d
-    → (k e : ℕ) → next ≤ k → k < length numbers → most < get_or numbers k e
-above_next numbers most next d rise lt high k e from within =
-    let up = rise next k e from within in
-    let same = any_default numbers next e d lt in
-    omega arith
-
--- those up to a number that is at most another
-pub counts_to : (numbers : List ℕ) (most last d : ℕ) → IsNonDecreasingBy (λ n. n) numbers → last < length numbers → get_or numbers last d ≤ most
-    → ((k e : ℕ) → last + 1 ≤ k → k < length numbers → most < get_or numbers k e) → IsCountUpTo most numbers (last + 1)
-counts_to numbers most last d rise lt low high = record {
-  within = omega arith;
-  below = λ k e less. (let up = rise k last e (omega arith) lt in let same = any_default numbers last e d lt in omega arith);
-  above = high;
-}
-
--- ---- the unit of an entry
-
-abbrev of : InfoEntry → ℕ
-of e = e.offset
-
-some_of : (o : Option InfoEntry) (offset : ℕ) → option_map of o ≡ Some offset → (e : InfoEntry) × (o ≡ Some e) × (e.offset ≡ offset)
-some_of None offset is = absurd cc
-some_of (Some e) offset is = (e, refl, ap (λ (o : Option ℕ). or_zero o) is)
-  where
-    or_zero : Option ℕ → ℕ
-    or_zero (Some n) = n
-    or_zero None = 0
-
--- as many are counted as its unit's index and one
-pub counted : (entries : List InfoEntry) (firsts : List ℕ) (i offset count : ℕ) → AreFirsts entries firsts
-    → option_map of (slice_get entries i) ≡ Some offset → IsCountUpTo i firsts count
-    → (e : InfoEntry) × (slice_get entries i ≡ Some e) × (e.offset ≡ offset) × (count ≡ e.«unit» + 1) × (count ≤ length firsts)
-counted entries firsts i offset count are is split =
-    let found = some_of (slice_get entries i) offset is in
-    let there : slice_get entries i ≡ Some found.0 = found.1 in
-    (found.0, there, found.2, same_count i firsts count (found.0.«unit» + 1) split (are.units i found.0 there), split.within)
 
 -- ---- links
 
