@@ -1,6 +1,6 @@
 -- Entries that were located: those that they refer to, and their declarations.
 use Rattle.std.proofs.Common.{◌≡◌, ℕ, ◌<◌, ◌≤◌, Bool, true, false, List, length, take, Option, Some, None, Result, Ok, Err, refl, sym, ap, ◌∙◌, subst, arith}
-use Rattle.std.specs.Prelude.{slice_get, option_map, option_and_then, IfSome, nat_le, if◌then◌else◌}
+use Rattle.std.specs.Prelude.{option_map, option_and_then, IfSome, nat_le, if◌then◌else◌}
 use Rattle.std.specs.Result.{result_ok}
 use Rattle.std.proofs.lemmas.Option.{slice_get-get_or, same_Some}
 use Rattle.prof_bytes.specs.Fields.{Input, taken, uleb_from}

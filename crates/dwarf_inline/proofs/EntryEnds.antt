@@ -56,7 +56,7 @@ end_reaches depths i depth j d lt le all =
     omega (arith, end_is depths i depth)
 
 -- after a deeper entry and its descendants the depths up to the end go on
-jumps : (depths : List ℕ) (i depth j : ℕ) (d : ℕ) → i < j → j < length depths → depth < (get_or depths j d)
+pub jumps : (depths : List ℕ) (i depth j : ℕ) (d : ℕ) → i < j → j < length depths → depth < (get_or depths j d)
     → j ≤ entry_end depths i depth → entry_end depths j (get_or depths j d) ≤ entry_end depths i depth
 jumps depths i depth j d lt there deep covered =
     let inner : ℕ = (get_or depths j d) in

@@ -4,7 +4,7 @@ use Rattle.std.specs.Prelude.{All, AllPairs, filter, count_by, sum_by, slice_get
 use Rattle.std.specs.List.{enumerate_from, flat_map, prefix_len, take_while}
 use Rattle.std.proofs.lemmas.List.Folds.{length-prefix_len}
 use Rattle.std.proofs.Math.ListN.{get_or-map}
-use Rattle.std.proofs.lemmas.List.{get_or-take, get_or-drop, take-append-drop, append-nil, take-map, drop-map, length-map, take_all}
+use Rattle.std.proofs.lemmas.List.{get_or-take, get_or-drop, take-append-drop, append-nil, take-map, drop-map, length-map}
 use Rattle.std.proofs.lemmas.List.Elements.{All-filter, All-get_or, filter_passes, filter-append}
 use Rattle.std.proofs.lemmas.List.Kept.{AllPairs-filter}
 use Rattle.std.proofs.lemmas.List.FromFn.{length-enumerate_from, get_or-enumerate_from}
@@ -20,7 +20,7 @@ use Rattle.dwarf_inline.specs.Nesting.{end_of, items_before, item_after}
 use Rattle.dwarf_inline.specs.Structure.{counted_ranges, ranges_before}
 use Rattle.dwarf_inline.specs.private.Ends.{depths_of, entry_end, AreEndsFrom}
 use Rattle.dwarf_inline.proofs.Lists.{any_default, filter_all, filter_none, filter_swap, count_map, count_grows}
-use Rattle.dwarf_inline.proofs.EntryEnds.{end_behind, end_within}
+use Rattle.dwarf_inline.proofs.EntryEnds.{end_behind, deeper_within, jumps}
 
 abbrev pub Ascending : List Indexed → Type 0
 Ascending xs = AllPairs (λ e f. e.0 < f.0) xs
@@ -107,13 +107,6 @@ item_end info items ends k d same are lt =
     are.are item.0 item.1.depth (omega arith) (omega (arith, depths_long info, item_within info items k d same lt))
     ∙ ap (entry_end (depths_of info) item.0) (get_or-map (λ (e : InfoEntry). e.depth) info.entries item.0 item.1 ∙ ap (λ (e : InfoEntry). e.depth) is) ∙ sym (end_of_is info item)
 
-pub item_end_within : (info : DebugInfo) (items : List Indexed) (k : ℕ) (d : Indexed) → items ≡ item_entries info → k < length items
-    → end_of info (get_or items k d) ≤ length info.entries
-item_end_within info items k d same lt =
-    let item : Indexed = get_or items k d in
-    let here : item.0 < length (depths_of info) = omega (arith, depths_long info, item_within info items k d same lt) in
-    omega (arith, end_of_is info item, depths_long info, end_within (depths_of info) item.0 item.1.depth here)
-
 pub item_end_behind : (info : DebugInfo) (e : Indexed) → e.0 < end_of info e
 item_end_behind info e = omega (arith, end_of_is info e, end_behind (depths_of info) e.0 e.1.depth)
 
@@ -141,26 +134,6 @@ counted info i =
     ap (λ (xs : List InfoEntry). count_by is_item (take i xs)) (sym (entries_are 0 info.entries))
     ∙ ap (count_by is_item) (take-map (λ (e : Indexed). e.1) i (indexed info))
     ∙ count_map is_item (λ (e : Indexed). e.1) (take i (indexed info)) ∙ sym (length-filter passes (take i (indexed info)))
-
--- the entries before an index are those with lower indices
-pub taken_low : (info : DebugInfo) (i : ℕ) (d : Indexed) → i ≤ length info.entries → take i (indexed info) ≡ filter (λ e. nat_lt e.0 i) (indexed info)
-taken_low info i d le =
-    let long : length (indexed info) ≡ length info.entries = length-enumerate_from 0 info.entries in
-    elim (cases_lt i (length info.entries)) [
-      | inl lt ↦
-          let there : i < length (indexed info) = omega arith in
-          let own : (get_or (indexed info) i d).0 ≡ i = ap (λ (e : Indexed). e.0) (numbered info.entries i d there) in
-          sym (lower_first (indexed info) i d (all_ascending info.entries) there) ∙ ap (λ (n : ℕ). filter (λ e. nat_lt e.0 n) (indexed info)) own
-      | inr ge ↦
-          take_all i (indexed info) (omega arith)
-          ∙ sym (filter_all (λ e. nat_lt e.0 i) (indexed info) (λ k e within.
-          lt-ltb _ _ (omega (arith, ap (λ (f : Indexed). f.0) (numbered info.entries k e within)))))
-    ]
-
--- as many items are before an index as have lower ones
-pub items_below : (info : DebugInfo) (i : ℕ) (d : Indexed) → i ≤ length info.entries → items_before info i ≡ length (filter (λ e. nat_lt e.0 i) (item_entries info))
-items_below info i d le =
-    counted info i ∙ ap (λ es. length (filter passes es)) (taken_low info i d le) ∙ ap length (filter_swap passes (λ e. nat_lt e.0 i) (indexed info))
 
 -- as many items are before an item as its number says
 pub number_is : (info : DebugInfo) (k : ℕ) (d : Indexed) → k < length (item_entries info) → items_before info (get_or (item_entries info) k d).0 ≡ k
@@ -196,3 +169,36 @@ after_between info k d lt =
     let most : items_before info (end_of info item) ≤ count_by is_item info.entries = sum_by-take-le (λ e. cond (is_item e) 1 0) info.entries (end_of info item) in
     let all : count_by is_item info.entries ≡ length (item_entries info) = all_counted info in
     (omega arith, omega arith)
+
+-- ---- the items after items
+
+-- an item that begins where another ends, or behind, is not before the one after that
+pub after_ends : (info : DebugInfo) (k j : ℕ) (d : Indexed) → j < length (item_entries info) → end_of info (get_or (item_entries info) k d) ≤ (get_or (item_entries info) j d).0
+    → item_after info (get_or (item_entries info) k d) ≤ j
+after_ends info k j d lt le =
+    let grown : items_before info (end_of info (get_or (item_entries info) k d)) ≤ items_before info (get_or (item_entries info) j d).0 =
+    count_grows is_item (end_of info (get_or (item_entries info) k d)) (get_or (item_entries info) j d).0 info.entries le in
+    let at : items_before info (get_or (item_entries info) j d).0 ≡ j = number_is info j d lt in
+    omega arith
+
+-- a descendant ends no later
+ends_inside : (info : DebugInfo) (k j : ℕ) (d : Indexed) → k < j → j < length (item_entries info)
+    → (get_or (item_entries info) j d).0 < end_of info (get_or (item_entries info) k d) → end_of info (get_or (item_entries info) j d) ≤ end_of info (get_or (item_entries info) k d)
+ends_inside info k j d lt there inside =
+    let depths : List ℕ = depths_of info in
+    let e : Indexed = get_or (item_entries info) k d in
+    let f : Indexed = get_or (item_entries info) j d in
+    let up : e.0 < f.0 = items_ascending info k j d lt there in
+    let within : f.0 < length depths = omega (arith, depths_long info, item_within info (item_entries info) j d refl there) in
+    let own : get_or info.entries f.0 f.1 ≡ f.1 = get_or_from_slice_get info.entries f.0 f.1 f.1 (item_there info (item_entries info) j d refl there) in
+    let depth : get_or depths f.0 f.1.depth ≡ f.1.depth = get_or-map (λ (x : InfoEntry). x.depth) info.entries f.0 f.1 ∙ ap (λ (x : InfoEntry). x.depth) own in
+    let covered : f.0 < entry_end depths e.0 e.1.depth = omega (arith, end_of_is info e) in
+    let deep : e.1.depth < get_or depths f.0 f.1.depth = deeper_within depths e.0 e.1.depth f.0 f.1.depth up covered in
+    let inner : entry_end depths f.0 (get_or depths f.0 f.1.depth) ≤ entry_end depths e.0 e.1.depth = jumps depths e.0 e.1.depth f.0 f.1.depth up within deep (omega arith) in
+    let same : entry_end depths f.0 (get_or depths f.0 f.1.depth) ≡ entry_end depths f.0 f.1.depth = ap (entry_end depths f.0) depth in
+    omega (arith, end_of_is info f, end_of_is info e)
+
+pub after_inside : (info : DebugInfo) (k j : ℕ) (d : Indexed) → k < j → j < length (item_entries info)
+    → (get_or (item_entries info) j d).0 < end_of info (get_or (item_entries info) k d) → item_after info (get_or (item_entries info) j d) ≤ item_after info (get_or (item_entries info) k d)
+after_inside info k j d lt there inside =
+    count_grows is_item (end_of info (get_or (item_entries info) j d)) (end_of info (get_or (item_entries info) k d)) info.entries (ends_inside info k j d lt there inside)

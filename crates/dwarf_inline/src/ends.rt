@@ -1,9 +1,8 @@
 //! Where entries end, and the numbers of the items after them.
-ghost use Rattle.std.specs.Prelude.{◌≡◌, ◌+◌, ◌<◌, ◌^◌, true, nat_lt, filter, length, map, IfOk};
-ghost use Rattle.std.specs.List.Sorted.{IsNonDecreasingBy};
+ghost use Rattle.std.specs.Prelude.{◌≡◌, ◌+◌, ◌<◌, ◌^◌, length, map, IfOk};
 ghost use Rattle.dwarf_info.specs.Subroutines.{item_entries, subroutine_entry};
 ghost use Rattle.dwarf_inline.specs.Nesting.{item_after};
-ghost use Rattle.dwarf_inline.specs.private.Ends.{AreEndsFrom, depths_of, entry_end};
+ghost use Rattle.dwarf_inline.specs.private.Ends.{AreEndsFrom, AreAftersFrom, after_at, depths_of, end_at, entry_end};
 
 use dwarf_info::{Info, SubroutineEntry};
 use prof_bytes::Memory;
@@ -48,42 +47,26 @@ pub(crate) fn ends_of(alloc: Global, depths: Vec<u32>) -> Result<Vec<u32>, Memor
     ends_among(alloc, depths.as_slice())
 }
 
-/// How many items have an index below `end`, by a binary search.
-fn count_below(items: &[SubroutineEntry], end: u32) -> usize
-    requires { IsNonDecreasingBy (λ item. item.index) items.now }
-    ensures { result ≡ length (filter (λ item. nat_lt item.index end) items.now) }
+/// The number of the first item after the item with number `k` that is not a descendant of it, by those of later items;
+/// `end` is the index after its entry and the descendants.
+fn after_from(info: &Info<'_>, items: &[SubroutineEntry], afters: &[u32], k: usize, end: u32) -> u32
+    requires few { length info.now.entries < 2 ^ 31 }
+    requires items { items.now ≡ map subroutine_entry (item_entries info.now) }
+    requires here { k < length items.now }
+    requires end { end ≡ end_at info.now k }
+    requires long { length afters.now ≡ length items.now }
+    requires afters { AreAftersFrom info.now (k + 1) afters.now }
+    ensures { result ≡ after_at info.now k }
 {
-    items.partition_point(|item| item.index < end)
+    let mut after = k + 1;
+    while after < items.len() && items[after].index < end {
+        after = afters[after] as usize;
+    }
+    after as u32
 }
 
-/// Whether just the first `count` items, of which there is one or more, have an index below `end`.
-#[inline(always)]
-fn are_below(items: &[SubroutineEntry], end: u32, count: usize) -> bool
-    requires { IsNonDecreasingBy (λ item. item.index) items.now }
-    ensures { result ≡ true → count ≡ length (filter (λ item. nat_lt item.index end) items.now) }
-{
-    if count == 0 || count > items.len() || items[count - 1].index >= end {
-        return false;
-    }
-    if count < items.len() {
-        return items[count].index >= end;
-    }
-    true
-}
-
-/// The same as `count_below`, where the number `near` is tried before the search.
-#[inline(always)]
-fn count_below_near(items: &[SubroutineEntry], end: u32, near: usize) -> usize
-    requires { IsNonDecreasingBy (λ item. item.index) items.now }
-    ensures { result ≡ length (filter (λ item. nat_lt item.index end) items.now) }
-{
-    if are_below(items, end, near) {
-        return near;
-    }
-    count_below(items, end)
-}
-
-/// For each item the number of the first later item that is not a descendant of it.
+/// For each item the number of the first later item that is not a descendant of it. Takes linear time: from the last item
+/// to the first, each is passed once.
 pub(crate) fn afters_of(
     alloc: Global,
     info: &Info<'_>,
@@ -95,11 +78,14 @@ pub(crate) fn afters_of(
     requires ends { AreEndsFrom (depths_of info.now) 0 ends.now }
     ensures { IfOk result (λ afters. afters.items ≡ map (item_after info.now) (item_entries info.now)) }
 {
-    let mut afters = Vec::new(alloc);
-    for item in items {
-        let end = ends[item.index as usize];
-        let after = count_below_near(items, end, afters.len() + 1);
-        afters.push(after as u32)?;
+    // room: `items.len()`, a number for each item
+    let mut afters = vec![in alloc; 0u32; items.len()]?;
+    let mut k = items.len();
+    while k > 0 {
+        k -= 1;
+        let end = ends[items[k].index as usize];
+        let after = after_from(info, items, afters.as_slice(), k, end);
+        afters[k] = after;
     }
     Ok(afters)
 }

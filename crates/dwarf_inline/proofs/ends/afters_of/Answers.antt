@@ -1,39 +1,41 @@
-use Rattle.std.proofs.Common.{◌<◌, length, map, ap, ◌∙◌, arith}
-use Rattle.std.proofs.lemmas.List.{take_all}
-use Rattle.dwarf_info.specs.Subroutines.{item_entries}
-use Rattle.dwarf_inline.specs.Nesting.{item_after}
-use Rattle.dwarf_inline.proofs.CheckedItems.{one_more}
-use Rattle.dwarf_inline.proofs.Items.{after_between}
-use Rattle.dwarf_inline.proofs.Whole.{few_items}
-use Rattle.dwarf_inline.proofs.KeptEntries.{nothing, kept_long, kept_rises, end_within_ends, after_is}
+use Rattle.std.proofs.Common.{rules, ◌≡◌, ℕ, ◌-◌, subst, ◌∙◌, arith, length-set}
+use Rattle.dwarf_inline.specs.private.Ends.{AreAftersFrom}
+use Rattle.dwarf_inline.proofs.KeptEntries.{kept_long, end_within_ends, end_is, one_more_after, all_afters}
 use Rattle.dwarf_inline.proofs.ends.afters_of.Goals as goal
 
-pub bounds-ends-item : goal.bounds-ends-item
-bounds-ends-item c = end_within_ends c.args.info.now c.args.items.now c.args.ends.now c.loop-item.item-index _ c.requires.items c.requires.ends c.loop-item-test.true
+pub loop-k-init : goal.loop-k-init
+loop-k-init c = record {
+  within = omega arith;
+  long = search rules;
+  afters = record { are = λ k from there. absurd (omega (arith, kept_long c.args.info.now c.args.items.now c.requires.items)) };
+}
 
-pub count_below_near-after-requires : goal.count_below_near-after-requires
-count_below_near-after-requires c = kept_rises c.args.info.now c.args.items.now c.requires.items
+pub loop-k-preserved : goal.loop-k-preserved
+loop-k-preserved c =
+    let within = c.loop-k.invariant.within in
+    let long = c.loop-k.invariant.long in
+    let some = c.loop-k-test.true in
+    record {
+      within = omega arith;
+      long = length-set c.loop-k.afters.items _ _ ∙ long;
+      afters = one_more_after c.args.info.now c.loop-k.afters.items c.loop-k.k _ c.after_from-after.result (omega arith) (omega arith) c.loop-k.invariant.afters c.after_from-after.ensures;
+    }
 
-pub loop-item-preserved : goal.loop-item-preserved
-loop-item-preserved c =
-    one_more (item_after c.args.info.now) (item_entries c.args.info.now) c.loop-item.item-index nothing _ c.loop-item.afters.items _
-    (omega (arith, c.loop-item-test.true, kept_long c.args.info.now c.args.items.now c.requires.items))
-    (after_is c.args.info.now c.args.items.now c.args.ends.now c.loop-item.item-index _ _ c.requires.items c.requires.ends c.loop-item-test.true c.count_below_near-after.ensures)
-    c.loop-item.invariant c.in_ok-push.ensures.items
+pub bounds-ends-items : goal.bounds-ends-items
+bounds-ends-items c =
+    let within = c.loop-k.invariant.within in
+    let some = c.loop-k-test.true in
+    end_within_ends c.args.info.now c.args.items.now c.args.ends.now (c.loop-k.k - 1) _ c.requires.items c.requires.ends (omega arith)
+
+pub after_from-after-requires-clause-end : goal.after_from-after-requires-clause-end
+after_from-after-requires-clause-end c =
+    let within = c.loop-k.invariant.within in
+    let some = c.loop-k-test.true in
+    end_is c.args.info.now c.args.items.now c.args.ends.now (c.loop-k.k - 1) _ c.requires.items c.requires.ends (omega arith)
 
 pub returns : goal.returns
 returns c =
-    c.loop-item.invariant
-    ∙ ap (map (item_after c.args.info.now)) (take_all c.loop-item.item-index (item_entries c.args.info.now)
-    (omega (arith, c.loop-item-test.false, kept_long c.args.info.now c.args.items.now c.requires.items)))
-
-pub overflow_cast-after : goal.overflow_cast-after
-overflow_cast-after c =
-    let info = c.args.info.now in
-    let within : c.loop-item.item-index < length (item_entries info) = omega (arith, c.loop-item-test.true, kept_long info c.args.items.now c.requires.items) in
-    let is = after_is info c.args.items.now c.args.ends.now c.loop-item.item-index _ _ c.requires.items c.requires.ends c.loop-item-test.true c.count_below_near-after.ensures in
-    let between = after_between info c.loop-item.item-index nothing within in
-    let most = between.1 in
-    let few = few_items info in
-    let small = c.requires.few in
-    omega arith
+    let none = c.loop-k-test.false in
+    let zero : c.loop-k.k ≡ 0 = omega arith in
+    all_afters c.args.info.now c.args.items.now c.loop-k.afters.items c.requires.items c.loop-k.invariant.long
+    (subst (λ (k : ℕ). AreAftersFrom c.args.info.now k c.loop-k.afters.items) zero c.loop-k.invariant.afters)

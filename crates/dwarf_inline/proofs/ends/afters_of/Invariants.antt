@@ -1,7 +1,13 @@
-use Rattle.std.proofs.Common.{◌≡◌, take, map}
-use Rattle.dwarf_info.specs.Subroutines.{item_entries}
-use Rattle.dwarf_inline.specs.Nesting.{item_after}
+use Rattle.std.proofs.Common.{◌≡◌, ◌≤◌, length}
+use Rattle.dwarf_inline.specs.private.Ends.{AreAftersFrom}
 use Rattle.dwarf_inline.proofs.ends.afters_of.Given as goal
 
-abbrev pub invariant-loop-item : goal.invariant-loop-item
-invariant-loop-item l = l.afters.items ≡ map (item_after l.info) (take l.item-index (item_entries l.info))
+abbrev pub invariant-loop-k : goal.invariant-loop-k
+invariant-loop-k l = record {
+  within : l.k ≤ length l.items;
+  long : length l.afters.items ≡ length l.items;
+  afters : AreAftersFrom l.info l.k l.afters.items;
+}
+
+abbrev pub decreases-loop-k : goal.decreases-loop-k
+decreases-loop-k l = l.k
