@@ -209,14 +209,25 @@ def long_path(count, length=10_000_000):
     return structure(elf(info=info, abbrev=table, line=line_table(body, b"")))
 
 
-def shared_program(count, length=500_000):
-    """Line tables whose programs are the same bytes, behind the last of them."""
+def of_shared_program(tables, length=500_000, **how):
+    """A program with line tables whose programs are the same bytes, behind the last of them."""
     body = line_header()
     program = one_row(BASE) + b"\1" * (length - 1) + SEQUENCE_END
     step = len(line_table(body, program))
-    line = b"".join(line_table(body, program, step * (count - 1 - n)) for n in range(count)) + program
-    info, abbrev = lined_units([step * n for n in range(count)])
-    return structure(elf(info=info, abbrev=abbrev, line=line))._replace(tables=True)
+    line = b"".join(line_table(body, program, step * (tables - 1 - n)) for n in range(tables)) + program
+    info, abbrev = lined_units([step * n for n in range(tables)])
+    return elf(info=info, abbrev=abbrev, line=line, **how)
+
+
+def shared_program(count):
+    """Line tables that share a program."""
+    return structure(of_shared_program(count))._replace(tables=True)
+
+
+def searched_program(count):
+    """A hundred line tables that share a program, and a run that samples addresses that no table has."""
+    data = of_shared_program(100, code=[0x00150513] * (count + 1))
+    return running(data, f"harts 1\n0 {count + 1}\n", ("profile",))
 
 
 def sequences(count):
