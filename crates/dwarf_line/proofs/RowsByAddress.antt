@@ -15,11 +15,10 @@ use Rattle.std.proofs.lemmas.List.Sorted.{IsNonDecreasingBy-from_sort_by_key}
 use Rattle.std.proofs.lemmas.Fn.{always_returns_same}
 use denote.Ref.{Bor}
 use denote.Param.Members.{Mut}
-use Rattle.address_ranges.specs.declared.ranges.AddressRange.{AddressRange}
 use Rattle.core.proofs.slice.Orders.{nat_cmp-ltb}
 use Rattle.dwarf_line.specs.declared.registers.LineRow.{LineRow}
-use Rattle.dwarf_line.specs.Sequences.{greatest, last_row_at, rows_range}
-use Rattle.dwarf_line.specs.private.Rising.{zero_row, Rises, IsByAddress, start_of}
+use Rattle.dwarf_line.specs.Sequences.{greatest, last_row_at}
+use Rattle.dwarf_line.specs.private.Rising.{zero_row, Rises, IsByAddress}
 
 -- ---- the greatest address
 
@@ -169,11 +168,3 @@ pub rising_rows : (rows : List LineRow) → Rises rows → IsByAddress rows rows
 rising_rows rows rises = record { rises = rises; stable = λ x. refl }
 
 -- ---- the first row
-
-pub range_from : (end start : ℕ) (rows : List LineRow) → Some start ≡ start_of rows → (let range : AddressRange = record { start = start; end = end } in range) ≡ rows_range end rows
-range_from end start [] e = absurd cc
-range_from end start (row ∷ rows) e = cc
-
-pub range_of_none : (end : ℕ) (rows : List LineRow) → None ≡ start_of rows → (let range : AddressRange = record { start = 0; end = 0 } in range) ≡ rows_range end rows
-range_of_none end [] e = refl
-range_of_none end (row ∷ rows) e = absurd cc

@@ -2,7 +2,7 @@
 //!
 //! It promises that the line of an address is that of the row in force there, over the whole matrix of
 //! every table, or the first fault in the order of the offsets that are given. Below are `dwarf_forms`,
-//! `elf_image`, `address_ranges`, `scope_types`, `prof_bytes` and `byteorder`, and `ghost_value` for the order of rows.
+//! `elf_image`, `address_ranges`, `scope_types`, `prof_bytes` and `byteorder`.
 #![tactic(auto)]
 
 mod code;

@@ -1,49 +1,33 @@
 //! The rows of a sequence, and the one in force at an address.
-ghost use Rattle.std.specs.Prelude.{◌≡◌, true, IfOk};
+ghost use Rattle.std.specs.Prelude.{◌≡◌, true, IfOk, option_map, unwrap_or};
 ghost use Rattle.dwarf_line.specs.private.BestRow.{better};
-ghost use Rattle.dwarf_line.specs.private.Rising.{Rises, IsByAddress, start_of};
+ghost use Rattle.dwarf_line.specs.private.Rising.{Rises, IsByAddress};
 ghost use Rattle.dwarf_line.specs.Sequences.{last_row_at};
 
 use crate::registers::LineRow;
-use ghost_value::{Determines, GhostValue};
-use prof_bytes::{Listed, Memory};
+use prof_bytes::Memory;
+use std::alloc::Global;
 use std::marker::Model;
 
-/// Rows in the order of the program. Contracts read it, and no code keeps it.
-type ProgramRows = GhostValue<Listed<LineRow>>;
-
-/// The rows as they are.
-struct AsTheyAre;
-
-impl<'a> Determines<&'a [LineRow], (), Listed<LineRow>> for AsTheyAre {
-    ghost value = { λ rows _. rows.now };
-}
-
-fn program_rows(rows: &[LineRow]) -> ProgramRows
-    ensures { result.value ≡ rows.now }
-{
-    GhostValue::of::<&[LineRow], (), AsTheyAre>(&rows, &())
-}
-
-/// The rows of a sequence, by address, and the address at which the sequence starts. Contracts see the rows in the
-/// order of the program.
+/// The rows of a sequence in the order of the program, and by address where their addresses fall. Contracts see them in
+/// the order of the program.
 #[derive(Drop)]
 pub(crate) struct SequenceRows {
-    start: Option<u32>,
     items: Vec<LineRow>,
-    listed: ProgramRows,
+    by_address: Option<Vec<LineRow>>,
 }
 
 impl Model for SequenceRows {
-    ghost use Rattle.std.specs.Prelude.{List};
+    ghost use Rattle.std.specs.Prelude.{List, option_map, unwrap_or};
     ghost use Rattle.dwarf_line.specs.declared.registers.LineRow.{LineRow};
-    ghost use Rattle.dwarf_line.specs.private.Rising.{IsKept};
+    ghost use Rattle.dwarf_line.specs.private.Rising.{IsByAddress};
 
     ghost Value = { List LineRow };
 
-    ghost view = { λ rows. rows.listed.value };
+    ghost view = { λ rows. rows.items.items };
 
-    ghost invariant = { λ rows. IsKept rows.listed.value rows.start rows.items.items };
+    ghost invariant = { λ rows. IsByAddress rows.items.items
+        (unwrap_or (option_map (λ v. v.items) rows.by_address) rows.items.items) };
 }
 
 /// Whether the addresses never fall.
@@ -68,15 +52,16 @@ fn sorted(mut rows: Vec<LineRow>) -> Result<Vec<LineRow>, Memory>
     Ok(rows)
 }
 
-/// The rows by address. Takes linear time where the addresses never fall.
+/// The rows by address, unless they are so as they are. Takes linear time where the addresses never fall.
 #[tactic(auto, using(crate::proofs::RowsByAddress::rising_rows))]
-fn by_address(rows: Vec<LineRow>) -> Result<Vec<LineRow>, Memory>
-    ensures { IfOk result (λ sorted. IsByAddress rows.items sorted.items) }
+fn by_address(alloc: Global, rows: &[LineRow]) -> Result<Option<Vec<LineRow>>, Memory>
+    ensures { IfOk result (λ sorted. IsByAddress rows.now (unwrap_or (option_map (λ v. v.items) sorted) rows.now)) }
 {
-    if is_rising(rows.as_slice()) {
-        return Ok(rows);
+    if is_rising(rows) {
+        return Ok(None);
     }
-    sorted(rows)
+    let copy = Vec::from_slice(alloc, rows)?;
+    Ok(Some(sorted(copy)?))
 }
 
 /// The row in force among rows whose addresses never fall, by binary search.
@@ -91,41 +76,35 @@ fn last_row_by_search(address: u32, rows: &[LineRow]) -> Option<LineRow>
     Some(rows[count - 1])
 }
 
-fn start_of(rows: &[LineRow]) -> Option<u32>
-    ensures { result ≡ start_of rows.now }
-{
-    match rows {
-        [] => None,
-        [first, ..] => Some(first.address),
-    }
-}
-
 impl SequenceRows {
-    pub(crate) fn from_vec(items: Vec<LineRow>) -> Result<SequenceRows, Memory>
+    pub(crate) fn from_vec(alloc: Global, items: Vec<LineRow>) -> Result<SequenceRows, Memory>
         ensures { IfOk result (λ rows. rows ≡ items.items) }
     {
-        let start = start_of(items.as_slice());
-        let listed = program_rows(items.as_slice());
-        let items = by_address(items)?;
-        Ok(SequenceRows {
-            start,
-            items,
-            listed,
-        })
+        let by_address = by_address(alloc, items.as_slice())?;
+        Ok(SequenceRows { items, by_address })
     }
 
-    /// The address of the first row.
-    pub(crate) fn start(&self) -> Option<u32>
-        ensures { result ≡ start_of self.now }
+    pub(crate) fn as_slice(&self) -> &[LineRow]
+        ensures { result.now ≡ self.now }
     {
-        self.start
+        self.items.as_slice()
+    }
+
+    /// The rows by address.
+    fn ascending(&self) -> &[LineRow]
+        ensures { IsByAddress self.now result.now }
+    {
+        match &self.by_address {
+            Some(sorted) => sorted.as_slice(),
+            None => self.items.as_slice(),
+        }
     }
 
     /// The row in force at an address, by binary search.
     pub(crate) fn row_at(&self, address: u32) -> Option<LineRow>
         ensures { result ≡ last_row_at address self.now }
     {
-        last_row_by_search(address, self.items.as_slice())
+        last_row_by_search(address, self.ascending())
     }
 }
 

@@ -42,11 +42,10 @@ impl HasRange for Sequence {
 
     ghost range_of = { sequence_range };
 
-    #[tactic(auto, using(crate::proofs::RowsByAddress::range_from, crate::proofs::RowsByAddress::range_of_none))]
     fn range(&self) -> AddressRange {
-        match self.rows.start() {
-            Some(start) => AddressRange {
-                start,
+        match self.rows.as_slice().first() {
+            Some(first) => AddressRange {
+                start: first.address,
                 end: u64::from(self.end),
             },
             None => AddressRange { start: 0, end: 0 },
@@ -110,7 +109,7 @@ impl<'i, 'f> Collector<'i, 'f> {
         let rows = mem::replace(&mut self.rows, Vec::new(self.alloc));
         let sequence = Sequence {
             table: self.table,
-            rows: SequenceRows::from_vec(rows)?,
+            rows: SequenceRows::from_vec(self.alloc, rows)?,
             end: row.address,
         };
         if is_counted(self.image, &sequence) {
@@ -138,12 +137,11 @@ impl<'i, 'f> Collector<'i, 'f> {
 }
 
 /// Whether a sequence isn't empty and lies within one executable segment of the program.
-#[tactic(auto, using(crate::proofs::RowsByAddress::range_from, crate::proofs::RowsByAddress::range_of_none))]
 fn is_counted(image: &Image<'_>, sequence: &Sequence) -> bool
     ensures { result ≡ is_counted image.now.segments sequence.now }
 {
-    match sequence.rows.start() {
-        Some(start) => image.counts(start, sequence.end),
+    match sequence.rows.as_slice().first() {
+        Some(first) => image.counts(first.address, sequence.end),
         None => false,
     }
 }

@@ -1,5 +1,5 @@
 -- Rows in the order of their addresses.
-use Rattle.std.specs.Prelude.{◌≡◌, ℕ, ◌≤◌, ◌<◌, false, List, [], ◌∷◌, length, get_or, Option, Some, None}
+use Rattle.std.specs.Prelude.{ℕ, ◌≤◌, ◌<◌, false, List, length, get_or}
 use Rattle.std.specs.List.Sorted.{IsStableByKey}
 use Rattle.std.specs.Ordering.{nat_cmp}
 use Rattle.dwarf_line.specs.declared.registers.LineRow.{LineRow}
@@ -20,13 +20,3 @@ Rises rows = (i j : ℕ) → i ≤ j → j < length rows → address_at rows i �
 pub record IsByAddress (rows sorted : List LineRow) : Type 0 where
   pub rises : Rises sorted
   pub stable : IsStableByKey (λ (r : LineRow). r.address) nat_cmp rows sorted
-
--- the address of the first row
-abbrev pub start_of : List LineRow → Option ℕ
-start_of [] = None
-start_of (row ∷ rows) = Some row.address
-
--- rows as they are kept: the address of the first, and all by address
-pub record IsKept (rows : List LineRow) (start : Option ℕ) (sorted : List LineRow) : Type 0 where
-  pub start_is : start ≡ start_of rows
-  pub sorted_is : IsByAddress rows sorted
