@@ -70,7 +70,8 @@ impl<'a> LineTable<'a> {
     }
 
     /// The line of the row in force at an address (DWARF 5, section 6.2). Takes no memory, and time logarithmic in the
-    /// number of sequences and of the rows of the sequence that holds the address.
+    /// number of sequences and of the rows of the sequence that holds the address; where no kept one does, time linear
+    /// in the bytes of the programs that are run again.
     pub fn row_at(&self, pc: u32) -> Option<LineId>
         ensures { result ≡ line_at self.now.sequences pc }
     {
