@@ -9,10 +9,9 @@ ghost use Rattle.cfi_unwind.specs.private.Index.{no_id, IsIndexOf, IsFilled, IsR
 ghost use Rattle.cfi_unwind.specs.private.Index.{FindsCallers, IsReady};
 
 use crate::code_words::{address_of, words_below, words_of};
+use crate::prepare::push_rule;
 use crate::unwind_rule::UnwindRule;
-use crate::unwind_rules::{
-    Latest, MOST_RULES, first_rule, id_at_address, push_ending, push_rule, rule_with,
-};
+use crate::unwind_rules::{Latest, MOST_RULES, first_rule, id_at_address, push_ending, rule_with};
 use cfi_table::{FrameTable, Row, Rows, RulesRef};
 use elf_image::Image;
 use prof_bytes::Memory;
@@ -24,6 +23,9 @@ const MOST_BYTES: u64 = 1 << 27;
 
 /// In place of an id, where none is made ready.
 const NO_ID: u32 = u32::MAX;
+
+/// How many words are looked at together for one whose unwind rule is not made ready.
+const BLOCK: usize = 64;
 
 /// The id of the unwind rule at each word of code, from the word `first` on. The first unwind rule is that of addresses
 /// that no FDE holds.
@@ -57,6 +59,15 @@ fn no_ids(alloc: Global, count: usize) -> Result<Vec<u32>, Memory>
 {
     // room: `count`, an id for each word of the code
     Ok(vec![in alloc; NO_ID; count]?)
+}
+
+/// Whether an id is not set. Each other one is below 2^21. It reads all ids, so that LLVM reads several at once.
+fn has_unset(ids: &[u32]) -> bool {
+    let mut joined = 0;
+    for id in ids {
+        joined |= *id;
+    }
+    joined == NO_ID
 }
 
 /// The index from which on no id is set.
@@ -98,7 +109,7 @@ impl Index {
     fn unset(alloc: Global, first: u32, count: usize) -> Index
         ensures { (rules : ℕ → Option Rules) → IsIndexOf rules result }
     {
-        match (no_ids(alloc, count), first_rule(alloc)) {
+        match (no_ids(alloc, count), first_rule(alloc, count)) {
             (Ok(ids), Ok(unwind_rules)) => Index {
                 first,
                 ids,
@@ -145,12 +156,11 @@ impl Index {
         ensures { KeepsIndex (rules_at (descriptions table.now)) self.old self.new }
     {
         for number in 0..table.fde_count() {
-            if let Some(rows) = table.rows_of(number)? {
+            if let Some(mut rows) = table.rows_of(number)? {
                 let Some(rest) = left.checked_sub(rows.instruction_bytes()) else {
                     return Ok(());
                 };
                 *left = rest;
-                let mut rows = rows;
                 self.add_rows(alloc, &mut rows)?;
             }
         }
@@ -168,13 +178,24 @@ impl Index {
         }
     }
 
-    /// Adds the unwind rules of the addresses that have none yet, one after another. No FDE holds most of them.
-    fn add_others(&mut self, alloc: Global, table: &FrameTable, left: &mut u64) -> Option<()>
-        requires { length self.old.unwind_rules.items ≤ 2 ^ 20 }
-        ensures { KeepsIndex (rules_at (descriptions table.now)) self.old self.new }
+    /// Adds the unwind rules of the words from one number up to another that have none yet, one after another. No FDE
+    /// holds most of them.
+    fn add_others_from(
+        &mut self,
+        alloc: Global,
+        table: &FrameTable,
+        left: &mut u64,
+        low: usize,
+        high: usize,
+    ) -> Option<()>
+        requires few { length self.old.unwind_rules.items ≤ 2 ^ 20 }
+        requires within { high ≤ length self.old.ids.items }
+        ensures few { length self.new.unwind_rules.items ≤ 2 ^ 20 }
+        ensures as_many { length self.new.ids.items ≡ length self.old.ids.items }
+        ensures keeps { KeepsIndex (rules_at (descriptions table.now)) self.old self.new }
     {
         let mut latest = Latest { id: 0, rules: None };
-        for number in 0..self.ids.len() {
+        for number in low..high {
             if self.ids[number] == NO_ID {
                 let pc = address_of(self.first, number)?;
                 let id = id_at_address(
@@ -186,6 +207,22 @@ impl Index {
                     pc,
                 )?;
                 self.ids[number] = id;
+            }
+        }
+        Some(())
+    }
+
+    /// Adds the unwind rules of the words that have none yet. Most blocks of words have no such word.
+    fn add_others(&mut self, alloc: Global, table: &FrameTable, left: &mut u64) -> Option<()>
+        requires { length self.old.unwind_rules.items ≤ 2 ^ 20 }
+        ensures { KeepsIndex (rules_at (descriptions table.now)) self.old self.new }
+    {
+        let count = self.ids.len();
+        for block in 0..count / BLOCK + 1 {
+            let low = (block * BLOCK).min(count);
+            let high = low.saturating_add(BLOCK).min(count);
+            if has_unset(&self.ids[low..high]) {
+                self.add_others_from(alloc, table, left, low, high)?;
             }
         }
         Some(())

@@ -1,7 +1,10 @@
 //! Unwind rules made of rules, without the registers that keep their values.
-ghost use Rattle.std.specs.Prelude.{◌≡◌, ◌≤◌, ℕ, List, IfOk, IfSome, map, take, false, true};
+ghost use Rattle.std.specs.Prelude.{◌≡◌, ◌+◌, ◌<◌, ◌≤◌, ◌^◌, ℕ, List, [], IfOk, IfSome, length, map, take, false, true};
+ghost use Rattle.std.specs.Prelude.{Option, Some};
 ghost use Rattle.cfi_unwind.specs.private.UnwindRules.{is_kept, saved_rule, usual_layout, return_address_saved, unwound_with, unwound_by};
 ghost use Rattle.cfi_unwind.specs.private.UnwindRules.{AreSaved, Recovers, FollowsRules, FollowsSome};
+ghost use Rattle.cfi_unwind.specs.private.Index.{IsAt, KeepsRules};
+ghost use Rattle.cfi_table.specs.declared.rules.Rules.{Rules};
 ghost use Rattle.cfi_unwind.specs.Caller.{Words, is_undefined};
 ghost use Rattle.cfi_table.specs.Rules.{rule_at};
 
@@ -40,26 +43,28 @@ fn not_kept(rules: &[Rule; 32]) -> ([RegisterRule; 32], usize)
     (registers, count)
 }
 
-/// The saved registers, where each of the others is kept and there are not too many.
-fn saved_of(rules: &RulesRef<'_>) -> Option<SavedRegisters>
-    ensures { IfSome result (λ saved. AreSaved saved rules.now.regs) }
+/// Puts the saved registers into an empty list, where each of the others is kept and there are not too many. False
+/// where it is not so; the list is then unspecified.
+#[inline(always)]
+fn save_each(rules: &RulesRef<'_>, saved: &mut SavedRegisters) -> bool
+    requires { saved.old ≡ [] }
+    ensures { result ≡ true → AreSaved saved.new rules.now.regs }
 {
     let regs = rules.regs();
-    let mut saved = SavedRegisters::none();
     let mut from = 0;
     while let Some(register) = rules.next_changed(from) {
         match regs[usize::from(register)] {
             Rule::Kept => {}
             Rule::Saved(offset) => {
                 if !saved.push(SavedRegister { register, offset }) {
-                    return None;
+                    return false;
                 }
             }
-            _ => return None,
+            _ => return false,
         }
         from = register + 1;
     }
-    Some(saved)
+    true
 }
 
 fn is_usual(layout: &FrameLayout) -> bool
@@ -79,6 +84,7 @@ fn return_offset(saved: &[SavedRegister]) -> Option<u32>
 }
 
 /// The unwind rule of a layout and the registers that are saved, in the form that takes least time.
+#[inline(always)]
 fn rule_of(layout: FrameLayout, saved: SavedRegisters) -> UnwindRule
     ensures { (words : Words) (before : List ℕ)
         → unwound_by words before result ≡ unwound_with words before layout (map saved_rule saved) }
@@ -95,6 +101,7 @@ fn rule_of(layout: FrameLayout, saved: SavedRegisters) -> UnwindRule
 }
 
 /// The unwind rule of rules by which each register is kept or saved, and there is a return address.
+#[inline(always)]
 fn rule_by_saved(rules: &RulesRef<'_>, saved: SavedRegisters) -> UnwindRule
     requires address { is_undefined (rule_at rules.now.regs rules.now.return_register) ≡ false }
     requires saved { AreSaved saved rules.now.regs }
@@ -136,25 +143,58 @@ fn rule_by_all(alloc: Global, rules: &RulesRef<'_>) -> Result<UnwindRule, Memory
     }
 }
 
-/// The unwind rule of rules that are in force.
-fn rule_by(alloc: Global, rules: &RulesRef<'_>) -> Result<UnwindRule, Memory>
-    ensures { IfOk result (λ unwind_rule. FollowsSome unwind_rule rules.now) }
+/// The id of an unwind rule that is added as the last one.
+#[inline(always)]
+fn push_made(unwind_rules: &mut Vec<UnwindRule>, unwind_rule: UnwindRule) -> Result<u32, Memory>
+    requires { length unwind_rules.old.items < 2 ^ 20 }
+    ensures keeps { KeepsRules unwind_rules.old.items unwind_rules.new.items }
+    ensures few { length unwind_rules.new.items ≤ length unwind_rules.old.items + 1 }
+    ensures id { IfOk result (λ id. (found : Option Rules) → FollowsRules unwind_rule found
+        → IsAt unwind_rules.new.items id found) }
 {
-    if is_outermost(rules) {
-        return Ok(UnwindRule::Ends(End::Whole));
-    }
-    match saved_of(rules) {
-        Some(saved) => Ok(rule_by_saved(rules, saved)),
-        None => rule_by_all(alloc, rules),
-    }
+    let id = unwind_rules.len() as u32;
+    unwind_rules.push(unwind_rule)?;
+    Ok(id)
 }
 
-/// The unwind rule of the rules at an address, if there are any.
-pub(crate) fn prepare(alloc: Global, rules: Option<RulesRef<'_>>) -> Result<UnwindRule, Memory>
-    ensures { IfOk result (λ unwind_rule. FollowsRules unwind_rule rules.entry) }
+/// The id of a new unwind rule that follows rules that are in force. One of saved registers, which is large, is moved
+/// into the list where it is made.
+fn push_by(
+    alloc: Global,
+    unwind_rules: &mut Vec<UnwindRule>,
+    rules: &RulesRef<'_>,
+) -> Result<u32, Memory>
+    requires { length unwind_rules.old.items < 2 ^ 20 }
+    ensures keeps { KeepsRules unwind_rules.old.items unwind_rules.new.items }
+    ensures few { length unwind_rules.new.items ≤ length unwind_rules.old.items + 1 }
+    ensures id { IfOk result (λ id. IsAt unwind_rules.new.items id (Some rules.now)) }
+{
+    if is_outermost(rules) {
+        return Ok(push_made(unwind_rules, UnwindRule::Ends(End::Whole))?);
+    }
+    let mut saved = SavedRegisters::none();
+    if !save_each(rules, &mut saved) {
+        return Ok(push_made(unwind_rules, rule_by_all(alloc, rules)?)?);
+    }
+    Ok(push_made(unwind_rules, rule_by_saved(rules, saved))?)
+}
+
+/// The id of a new unwind rule that follows the rules at an address, if there are any.
+pub(crate) fn push_rule(
+    alloc: Global,
+    unwind_rules: &mut Vec<UnwindRule>,
+    rules: Option<RulesRef<'_>>,
+) -> Result<u32, Memory>
+    requires { length unwind_rules.old.items < 2 ^ 20 }
+    ensures keeps { KeepsRules unwind_rules.old.items unwind_rules.new.items }
+    ensures few { length unwind_rules.new.items ≤ length unwind_rules.old.items + 1 }
+    ensures id { IfOk result (λ id. IsAt unwind_rules.new.items id rules.entry) }
 {
     match rules {
-        Some(rules) => rule_by(alloc, &rules),
-        None => Ok(UnwindRule::Ends(End::Partial(PartialCause::NoFde))),
+        Some(rules) => Ok(push_by(alloc, unwind_rules, &rules)?),
+        None => {
+            let none = UnwindRule::Ends(End::Partial(PartialCause::NoFde));
+            Ok(push_made(unwind_rules, none)?)
+        }
     }
 }

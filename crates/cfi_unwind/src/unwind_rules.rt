@@ -1,10 +1,10 @@
 //! The unwind rules that are made ready, and the id of each, which is its index among them.
-ghost use Rattle.std.specs.Prelude.{◌≡◌, None, ◌+◌, ◌<◌, ◌≤◌, ◌^◌, IfOk, IfSome, length, slice_get};
+ghost use Rattle.std.specs.Prelude.{◌≡◌, None, ◌≤◌, ◌^◌, IfOk, IfSome, length, slice_get};
 ghost use Rattle.std.specs.Option.{option_copied};
 ghost use Rattle.cfi_table.specs.Frames.{descriptions, rules_at};
 ghost use Rattle.cfi_unwind.specs.private.Index.{IsAt, KeepsRules, EndsWhole};
 
-use crate::prepare::prepare;
+use crate::prepare::push_rule;
 use crate::same_rules::is_same;
 use crate::unwind_rule::UnwindRule;
 use cfi_table::{FrameTable, Rules, RulesRef};
@@ -31,22 +31,6 @@ fn lent(rules: &Option<Rules>) -> Option<RulesRef<'_>>
     }
 }
 
-/// The id of a new unwind rule that follows the rules.
-pub(crate) fn push_rule(
-    alloc: Global,
-    unwind_rules: &mut Vec<UnwindRule>,
-    rules: Option<RulesRef<'_>>,
-) -> Result<u32, Memory>
-    requires { length unwind_rules.old.items < 2 ^ 20 }
-    ensures keeps { KeepsRules unwind_rules.old.items unwind_rules.new.items }
-    ensures few { length unwind_rules.new.items ≤ length unwind_rules.old.items + 1 }
-    ensures id { IfOk result (λ id. IsAt unwind_rules.new.items id rules.entry) }
-{
-    let id = unwind_rules.len() as u32;
-    unwind_rules.push(prepare(alloc, rules)?)?;
-    Ok(id)
-}
-
 /// The id of a new unwind rule that ends the path whole. `None` if memory runs out or there are too many.
 pub(crate) fn push_ending(unwind_rules: &mut Vec<UnwindRule>) -> Option<u32>
     ensures keeps { KeepsRules unwind_rules.old.items unwind_rules.new.items }
@@ -61,12 +45,13 @@ pub(crate) fn push_ending(unwind_rules: &mut Vec<UnwindRule>) -> Option<u32>
     Some(id)
 }
 
-/// The unwind rule of addresses that no FDE holds.
-pub(crate) fn first_rule(alloc: Global) -> Result<Vec<UnwindRule>, Memory>
+/// The unwind rule of addresses that no FDE holds, with room for those of `count` words of code.
+pub(crate) fn first_rule(alloc: Global, count: usize) -> Result<Vec<UnwindRule>, Memory>
     ensures rule { IfOk result (λ unwind_rules. IsAt unwind_rules.items 0 None) }
     ensures few { IfOk result (λ unwind_rules. length unwind_rules.items ≤ 1) }
 {
-    let mut unwind_rules = Vec::new(alloc);
+    // room: `count / 4 + 2`, more than most programs need, since a list that grows moves its unwind rules
+    let mut unwind_rules = Vec::with_capacity(alloc, count / 4 + 2)?;
     push_rule(alloc, &mut unwind_rules, None)?;
     Ok(unwind_rules)
 }

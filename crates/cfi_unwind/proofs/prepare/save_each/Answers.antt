@@ -3,8 +3,8 @@ use Rattle.cfi_table.specs.declared.rules.Rule.{Rule}
 use Rattle.cfi_table.specs.Rules.{AreSameValue}
 use Rattle.cfi_unwind.specs.private.UnwindRules.{AreSaved}
 use Rattle.cfi_unwind.proofs.FewRules.{kept_on, saved_on, kept_up_to, all_saved}
-use Rattle.cfi_unwind.proofs.prepare.saved_of.Goals as goal
-use Rattle.cfi_unwind.proofs.prepare.saved_of.Goals.{in-Kept, in-Saved+else-not-push}
+use Rattle.cfi_unwind.proofs.prepare.save_each.Goals as goal
+use Rattle.cfi_unwind.proofs.prepare.save_each.Goals.{in-Kept, in-Saved+else-not-push}
 
 pub loop-register-preserved : goal.loop-register-preserved
 loop-register-preserved c =
@@ -22,7 +22,7 @@ loop-register-preserved c =
     ]
 
 pub returns : goal.returns
-returns c =
+returns c is =
     let regs = c.regs-regs.result.now in
     let from = c.loop-register.from in
     let full = c.regs-regs.ensures.all in

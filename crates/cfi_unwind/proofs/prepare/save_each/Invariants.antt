@@ -1,6 +1,6 @@
 use Rattle.std.proofs.Common.{◌-◌, ◌≤◌}
 use Rattle.cfi_unwind.proofs.FewRules.{SavedTo}
-use Rattle.cfi_unwind.proofs.prepare.saved_of.Given as goal
+use Rattle.cfi_unwind.proofs.prepare.save_each.Given as goal
 
 abbrev pub invariant-loop-register : goal.invariant-loop-register
 invariant-loop-register l = record {
