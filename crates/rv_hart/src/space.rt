@@ -1,7 +1,7 @@
 //! The memory of a program with the words of it that are decoded.
 ghost use Rattle.std.specs.Prelude.{◌≡◌, ◌<◌, ◌≤◌, ◌*◌, ◌^◌, true, false, IfErr, IfOk, IfSome, Ok, OnErr, length};
 ghost use Rattle.std.specs.Prelude.{option_map};
-ghost use Rattle.elf_image.specs.declared.elf.TheConstants.{PF_W};
+ghost use Rattle.elf_image.specs.declared.elf.TheConstants.{PF_R, PF_W};
 ghost use Rattle.rv_memory.specs.AddressSpace.{is_size, loaded, stored, may_all, fetched_at, first_memory};
 ghost use Rattle.rv_memory.specs.AddressSpace.{most_stacks};
 ghost use Rattle.rv_table.specs.Table.{HasRegisters, decoded};
@@ -65,6 +65,14 @@ impl<'a> Space<'a> {
         ensures fits { IfSome result (λ number. number < 2 ^ (8 * size)) }
     {
         self.memory.load(at, size)
+    }
+
+    /// Whether each of a given number of addresses from `at` on is below 2^32 and may be read. It takes a step for each
+    /// region.
+    pub fn may_read(&self, at: u32, count: u32) -> bool
+        ensures { result ≡ may_all PF_R self.now at count }
+    {
+        self.memory.may_read(at, count)
     }
 
     /// Writes the bytes from `at` on, and answers true; or changes nothing and answers false, where one

@@ -120,6 +120,12 @@ pub all-granted : (regions : List Segment) (region : Segment) (right at count : 
 all-granted regions region right at count own covered granted =
     all-range (may right regions) at count (λ i few. ap (grants right) (covers-region regions region at count i own covered few) ∙ granted)
 
+-- a region with a right grants it from an address of it up to its end
+pub granted-up : (regions : List Segment) (region : Segment) (right at a : ℕ) → IsRegionOf regions region → has right region ≡ true → region.start ≤ at → at ≤ a → a < region.end → may right regions a ≡ true
+granted-up regions region right at a own granted start low high =
+    let held : in_segment a region ≡ true = grind (arith, nat_tests) in
+    ap (grants right) (own a held) ∙ granted
+
 -- what is in a page lies in the page's region, and may be used
 pub in_page-covered : (page : Paged) (right at count : ℕ) → IsInPage page right at count → covers_all page.region at count ≡ true
 in_page-covered page right at count in_page = ap₂ (λ (a b : Bool). a && b) (le-leb page.region.start at in_page.low) (le-leb (at + count) page.region.end in_page.high)

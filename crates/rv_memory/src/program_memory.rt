@@ -3,14 +3,14 @@ ghost use Rattle.std.specs.Prelude.{◌≡◌, ◌+◌, ◌<◌, ◌≤◌, ◌*
 ghost use Rattle.std.specs.Prelude.{Some, length, slice_index};
 ghost use Rattle.std.specs.List.{range_with_len};
 ghost use Rattle.prof_bytes.specs.Number.{number_bytes};
-ghost use Rattle.elf_image.specs.declared.elf.TheConstants.{PF_W};
+ghost use Rattle.elf_image.specs.declared.elf.TheConstants.{PF_R, PF_W};
 ghost use Rattle.rv_memory.specs.AddressSpace.{is_size, loaded, stored, may_all, fetched_at, first_memory, stack_of};
 ghost use Rattle.rv_memory.specs.AddressSpace.{has, byte_at, region_at, IsRegionOf, most_stacks};
 
 use crate::access;
 use crate::paged_memory::PagedMemory;
 use crate::pages::Pages;
-use crate::region::{NO_REGION, covers};
+use crate::region::{NO_REGION, Right, covers};
 use crate::stack::stack_of;
 use elf_image::{Image, RangeTable, Segment};
 use prof_bytes::Memory;
@@ -120,6 +120,14 @@ impl<'a> ProgramMemory<'a> {
         ensures fits { IfSome result (λ number. number < 2 ^ (8 * size)) }
     {
         access::load_caching(&mut self.paged, self.alloc, at, size as usize)
+    }
+
+    /// Whether each of a given number of addresses from `at` on is below 2^32 and may be read. It takes a step for each
+    /// region.
+    pub fn may_read(&self, at: u32, count: u32) -> bool
+        ensures { result ≡ may_all PF_R self.now at count }
+    {
+        self.paged.all_granted(Right::Read, at, count as usize)
     }
 
     /// Writes the bytes from `at` on, and answers true; or changes nothing and answers false, where one

@@ -1,5 +1,6 @@
 //! Reading memory: numbers whose bytes are contiguous in a page or in the file, and others byte by byte.
-ghost use Rattle.std.specs.Prelude.{◌≡◌, ◌+◌, ◌<◌, ◌≤◌, ◌^◌, ◌*◌, ℕ, true, IfSome, length, map, slice_index, Some};
+ghost use Rattle.std.specs.Prelude.{◌≡◌, ◌+◌, ◌<◌, ◌≤◌, ◌^◌, ◌*◌, ℕ, true, false, IfSome, length, map, slice_index, Some};
+ghost use Rattle.std.specs.Prelude.{None};
 ghost use Rattle.std.specs.List.{range_with_len, list_all};
 ghost use Rattle.prof_bytes.specs.Number.{number_in};
 ghost use Rattle.rv_memory.specs.AddressSpace.{may, byte_in, is_size, loaded, IsRegionOf};
@@ -145,29 +146,35 @@ impl<'a> PagedMemory<'a> {
         self.region(at).unwrap_or(NO_REGION)
     }
 
-    /// Whether the address lies in a region with the right.
-    fn is_granted(&self, right: Right, at: usize) -> bool
+    /// The end of the region of an address, where it has the right: it is granted up to there.
+    fn granted_end(&self, right: Right, at: usize) -> Option<usize>
         requires { IsPaged self.now }
-        ensures { result ≡ may (bit_of right) self.now.regions at }
+        ensures none { result ≡ None → may (bit_of right) self.now.regions at ≡ false }
+        ensures above { IfSome result (λ end. at < end) }
+        ensures granted { IfSome result (λ end. (a : ℕ) → at ≤ a → a < end
+            → may (bit_of right) self.now.regions a ≡ true) }
     {
-        match u32::try_from(at) {
-            Ok(at) => match self.region(at) {
-                Some(region) => grants(&region, right),
-                None => false,
-            },
-            Err(_) => false,
+        let at = u32::try_from(at).ok()?;
+        let region = self.region(at)?;
+        if grants(&region, right) {
+            return Some(region.end as usize);
         }
+        None
     }
 
-    /// Whether each of a given number of addresses from `at` on lies in a region with the right.
+    /// Whether each of a given number of addresses from `at` on lies in a region with the right. It takes a step for each
+    /// region.
     pub(crate) fn all_granted(&self, right: Right, at: u32, count: usize) -> bool
         requires paged { IsPaged self.now }
         requires count { count < 2 ^ 63 }
         ensures { result ≡ list_all (may (bit_of right) self.now.regions) (range_with_len at count) }
     {
-        for offset in 0..count {
-            if !self.is_granted(right, at as usize + offset) {
-                return false;
+        let mut next = at as usize;
+        let end = next + count;
+        while next < end {
+            match self.granted_end(right, next) {
+                Some(after) => next = after,
+                None => return false,
             }
         }
         true

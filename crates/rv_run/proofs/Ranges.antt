@@ -1,15 +1,12 @@
 -- Addresses one after another.
-use Rattle.std.proofs.Common.{◌≡◌, inl, inr, ℕ, zero, suc, ◌+◌, ◌^◌, ◌<◌, ◌≤◌, ◌&&◌, Bool, true, false, cond, List, [], ◌∷◌, ◌++◌, length, map, take, drop, get_or, slice_set, Some, None, nat_le, refl, sym, ap, ap₂, subst, ◌∙◌, arith}
-use Rattle.std.specs.Option.{is_some}
+use Rattle.std.proofs.Common.{◌≡◌, ℕ, zero, suc, ◌+◌, ◌^◌, ◌<◌, ◌≤◌, ◌&&◌, Bool, true, List, [], ◌∷◌, ◌++◌, length, map, take, drop, get_or, slice_set, nat_le, refl, sym, ap, ap₂, subst, ◌∙◌, arith}
 use Rattle.std.specs.List.{All, range_with_len}
 use Rattle.std.proofs.lemmas.Bool.{and_parts, leb-true, le-leb}
-use Rattle.std.proofs.lemmas.Bool.Decides.{eqb_tells}
-use Rattle.std.proofs.lemmas.List.Folds.{list_all_at}
 use Rattle.std.proofs.lemmas.List.FromFn.{get_or-range_with_len, length-range_with_len, length-map-range_with_len, map-range_with_len_more}
 use Rattle.rv_memory.proofs.Contiguous.{all-range}
 use Rattle.std.proofs.lemmas.List.Sums.{AllPass-from_list_all}
 use Rattle.elf_image.specs.declared.elf.TheConstants.{PF_R}
-use Rattle.rv_memory.specs.AddressSpace.{AddressSpace, may, may_all, loaded, byte_at, memory_number}
+use Rattle.rv_memory.specs.AddressSpace.{AddressSpace, may, may_all, byte_at}
 use Rattle.elf_image.specs.Image.{ProgramImage}
 use Rattle.scope_types.specs.Limits.{most_harts}
 use Rattle.rv_run.specs.declared.schedule.Slice.{Slice}
@@ -19,36 +16,10 @@ use Rattle.rv_run.specs.Calls.{all_readable, memory_bytes}
 use Rattle.rv_run.specs.Progress.{Progress, IsFresh}
 use Rattle.rv_run.specs.private.Queue.{IsReady, FirstCanGoOn}
 
-pub one-unreadable : (memory : AddressSpace) (at count place : ℕ) → place < count → may PF_R memory.regions (at + place) ≡ false → may_all PF_R memory at count ≡ false
-one-unreadable memory at count place within unreadable =
-    list_all_at (may PF_R memory.regions) (range_with_len at count) place 0 (omega (arith, length-range_with_len at count))
-    (ap (may PF_R memory.regions) (get_or-range_with_len at count place 0 within) ∙ unreadable)
-
-pub loads-none : (memory : AddressSpace) (at : ℕ) → is_some (loaded memory at 1) ≡ false → may PF_R memory.regions at ≡ false
-loads-none memory at none = by_case (may PF_R memory.regions at) none
-  where
-    by_case : (b : Bool) → is_some (cond (b && true) (Some (memory_number memory at 1)) None) ≡ false → b ≡ false
-    by_case true e = absurd cc
-    by_case false e = refl
-
-pub loads-some : (memory : AddressSpace) (at : ℕ) → is_some (loaded memory at 1) ≡ true → may PF_R memory.regions at ≡ true
-loads-some memory at some = by_case (may PF_R memory.regions at) some
-  where
-    by_case : (b : Bool) → is_some (cond (b && true) (Some (memory_number memory at 1)) None) ≡ true → b ≡ true
-    by_case true e = refl
-    by_case false e = absurd cc
-
 pub each-readable : (memory : AddressSpace) (at count place : ℕ) → may_all PF_R memory at count ≡ true → place < count → may PF_R memory.regions (at + place) ≡ true
 each-readable memory at count place all less =
     sym (ap (may PF_R memory.regions) (get_or-range_with_len at count place 0 less))
     ∙ AllPass-from_list_all (may PF_R memory.regions) (range_with_len at count) all place 0 (omega (arith, length-range_with_len at count))
-
-pub one-more-readable : (memory : AddressSpace) (at place : ℕ) → may_all PF_R memory at place ≡ true → may PF_R memory.regions (at + place) ≡ true → may_all PF_R memory at (place + 1) ≡ true
-one-more-readable memory at place so_far here = all-range (may PF_R memory.regions) at (place + 1) each
-  where
-    each : (i : ℕ) → i < place + 1 → may PF_R memory.regions (at + i) ≡ true
-    each i less =
-        elim (eqb_tells i place) [ inl h ↦ ap (λ (n : ℕ). may PF_R memory.regions (at + n)) h.1 ∙ here | inr h ↦ each-readable memory at place i so_far (omega (arith, h.1)) ]
 
 pub fewer-readable : (memory : AddressSpace) (at count few : ℕ) → few ≤ count → all_readable memory at count ≡ true → all_readable memory at few ≡ true
 fewer-readable memory at count few less all =

@@ -8,20 +8,12 @@ use prof_bytes::Memory;
 use rv_hart::Space;
 use std::alloc::Global;
 
-/// Whether each of a given number of addresses from `at` on is below 2^32 and may be read. It takes time in
-/// proportion to their number.
+/// Whether each of a given number of addresses from `at` on is below 2^32 and may be read. It takes a step for each
+/// region.
 pub(crate) fn are_readable(space: &Space<'_>, at: u32, count: u32) -> bool
     ensures { result ≡ all_readable space.now at count }
 {
-    if u64::from(at) + u64::from(count) > 1 << 32 {
-        return false;
-    }
-    for offset in 0..count {
-        if space.load(at + offset, 1).is_none() {
-            return false;
-        }
-    }
-    true
+    u64::from(at) + u64::from(count) <= 1 << 32 && space.may_read(at, count)
 }
 
 /// The byte at an address that may be read.
