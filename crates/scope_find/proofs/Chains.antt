@@ -1,6 +1,5 @@
 -- The next inlined subroutine with an open range is the next of the calls that are inlined.
-use Rattle.std.proofs.Common.{◌≡◌, ℕ, zero, suc, ◌+◌, ◌-◌, ◌<◌, ◌≤◌, Bool, true, false, ◌&&◌, List, [], ◌∷◌, ◌++◌, length, drop, Some, None, refl, sym, ap, ◌∙◌, subst, inl, inr, arith, append_assoc}
-use Rattle.std.proofs.lemmas.List.{map_push}
+use Rattle.std.proofs.Common.{◌≡◌, ℕ, zero, suc, ◌+◌, ◌-◌, ◌<◌, ◌≤◌, Bool, true, false, ◌&&◌, List, [], ◌∷◌, length, drop, Some, None, refl, sym, ap, ◌∙◌, subst, inl, inr, arith}
 use Rattle.std.specs.Prelude.{slice_get}
 use Rattle.std.specs.List.{Contains}
 use Rattle.std.proofs.Math.Seq.{drop-cons}
@@ -11,7 +10,7 @@ use Rattle.dwarf_inline.specs.declared.subroutine.Subroutine.{Subroutine}
 use Rattle.dwarf_inline.specs.Structure.{ProgramStructure}
 use Rattle.scope_find.specs.declared.span.Span.{Span}
 use Rattle.scope_find.specs.Found.{Numbered, numbered, item_holds, inlined_before}
-use Rattle.scope_find.specs.private.Spans.{IsOpenAt, NoneOpen, IsFirstOpen, IsNextInlined, IsInlinedNext, inlined_from, no_item, item_at, items_at}
+use Rattle.scope_find.specs.private.Spans.{IsOpenAt, NoneOpen, IsFirstOpen, IsInlinedNext, inlined_from, into_number, no_item, item_at}
 use Rattle.scope_find.proofs.Holding.{held_item, open_range}
 
 pub past_drop : {X : Type 0} (xs : List X) (k : ℕ) → length xs ≤ k → drop k xs ≡ []
@@ -105,7 +104,7 @@ module _ (s : ProgramStructure) (held : List Span) (address : ℕ) (o : IsOpenAt
   far_next : (low end number : ℕ) → IsFirstOpen held true low number → end ≤ number → inlined_from s address low end ≡ []
   far_next low end number first far = none_called s address low end (quiet_below low end (λ q is kind from to. let le : number ≤ q.item = first.least q is kind from in omega arith))
 
-  is_next : (low end number : ℕ) → IsFirstOpen held true low number → number < end → IsInlinedNext s address low end number
+  is_next : (low end number : ℕ) → IsFirstOpen held true low number → number < end → inlined_from s address low end ≡ item_at s number ∷ into_number s address number
   is_next low end number first near =
       let it = (o.spans first.span first.there).item in
       let at : slice_get s.items first.span.item ≡ Some it = (o.spans first.span first.there).there in
@@ -115,35 +114,21 @@ module _ (s : ProgramStructure) (held : List Span) (address : ℕ) (o : IsOpenAt
       let g : item_at s number ≡ it = get_or_from_slice_get s.items number it no_item there in
       let is : called s address number ≡ true = rw g (is_call it.inlined (item_holds s address it) (sym h.0 ∙ first.kinds) h.1) in
       let above : low ≤ number = first.above in
-      record {
-        item = it;
-        there = there;
-        next =
-            to_number s address low number end above (omega arith) (omega arith) (quiet_below low number (λ q is kind from to. let le : number ≤ q.item = first.least q is kind from in omega arith))
-            ∙ call s address number end near within is
-            ∙ ap (λ (i : Subroutine). i ∷ inlined_from s address (number + 1) i.next_after_subtree) g;
-      }
+      to_number s address low number end above (omega arith) (omega arith) (quiet_below low number (λ q is kind from to. let le : number ≤ q.item = first.least q is kind from in omega arith))
+      ∙ call s address number end near within is
 
-pub next_some : (s : ProgramStructure) (held : List Span) (low end number : ℕ) → IsFirstOpen held true low number → number < end → (address : ℕ) → IsOpenAt s held address → IsNextInlined s address low end (Some number)
-next_some s held low end number first near address o = is_next s held address o low end number first near
+from_item : (s : ProgramStructure) (item : ℕ) (it : Subroutine) (address : ℕ) → slice_get s.items item ≡ Some it → into_number s address item ≡ inlined_from s address (item + 1) it.next_after_subtree
+from_item s item it address there = ap (λ (i : Subroutine). inlined_from s address (item + 1) i.next_after_subtree) (get_or_from_slice_get s.items item it no_item there)
 
-pub next_far : (s : ProgramStructure) (held : List Span) (low end number : ℕ) → IsFirstOpen held true low number → end ≤ number → (address : ℕ) → IsOpenAt s held address → IsNextInlined s address low end None
-next_far s held low end number first far address o = far_next s held address o low end number first far
+pub next_some : (s : ProgramStructure) (held : List Span) (item number : ℕ) (it : Subroutine) → slice_get s.items item ≡ Some it → IsFirstOpen held true (item + 1) number → number < it.next_after_subtree → (address : ℕ) → IsOpenAt s held address → IsInlinedNext s address item (Some number)
+next_some s held item number it there first near address o = from_item s item it address there ∙ is_next s held address o (item + 1) it.next_after_subtree number first near
 
-pub next_none : (s : ProgramStructure) (held : List Span) (low end : ℕ) → NoneOpen held true low → (address : ℕ) → IsOpenAt s held address → IsNextInlined s address low end None
-next_none s held low end none address o = none_next s held address o low end none
+-- an item without descendants
+pub next_leaf : (s : ProgramStructure) (held : List Span) (item : ℕ) (it : Subroutine) → slice_get s.items item ≡ Some it → it.next_after_subtree ≤ item + 1 → (address : ℕ) → IsOpenAt s held address → IsInlinedNext s address item None
+next_leaf s held item it there leaf address o = from_item s item it address there ∙ at_end s address (item + 1) it.next_after_subtree leaf
 
-one_item : (a b : Subroutine) → Some a ≡ Some b → a ≡ b
-one_item a b e = cc
+pub next_far : (s : ProgramStructure) (held : List Span) (item number : ℕ) (it : Subroutine) → slice_get s.items item ≡ Some it → IsFirstOpen held true (item + 1) number → it.next_after_subtree ≤ number → (address : ℕ) → IsOpenAt s held address → IsInlinedNext s address item None
+next_far s held item number it there first far address o = from_item s item it address there ∙ far_next s held address o (item + 1) it.next_after_subtree number first far
 
--- one more call
-pub chain_more : (s : ProgramStructure) (address low end number : ℕ) (item : Subroutine) (numbers more : List ℕ) (whole : List Subroutine)
-    → slice_get s.items number ≡ Some item → more ≡ numbers ++ number ∷ [] → whole ≡ items_at s numbers ++ inlined_from s address low end → IsNextInlined s address low end (Some number)
-    → whole ≡ items_at s more ++ inlined_from s address (number + 1) item.next_after_subtree
-chain_more s address low end number item numbers more whole there pushed so_far next =
-    let same : next.item ≡ item = one_item next.item item (sym next.there ∙ there) in
-    let g : item_at s number ≡ item = get_or_from_slice_get s.items number item no_item there in
-    so_far
-    ∙ ap (λ (rest : List Subroutine). items_at s numbers ++ rest) (next.next ∙ ap (λ (i : Subroutine). i ∷ inlined_from s address (number + 1) i.next_after_subtree) same)
-    ∙ sym (append_assoc (items_at s numbers) (item ∷ []) (inlined_from s address (number + 1) item.next_after_subtree))
-    ∙ ap (λ (front : List Subroutine). front ++ inlined_from s address (number + 1) item.next_after_subtree) (sym (rw pushed (map_push (item_at s) numbers number ∙ ap (λ (i : Subroutine). items_at s numbers ++ i ∷ []) g)))
+pub next_none : (s : ProgramStructure) (held : List Span) (item : ℕ) (it : Subroutine) → slice_get s.items item ≡ Some it → NoneOpen held true (item + 1) → (address : ℕ) → IsOpenAt s held address → IsInlinedNext s address item None
+next_none s held item it there none address o = from_item s item it address there ∙ none_next s held address o (item + 1) it.next_after_subtree none

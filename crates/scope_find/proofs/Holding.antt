@@ -37,7 +37,7 @@ pub any_found : {X : Type 0} (p : X → Bool) (xs : List X) → list_any p xs �
 any_found p [] e = absurd cc
 any_found p (x ∷ xs) e = either p x xs (p x) refl e (λ f. any_found p xs f)
 
-both_true : (a b : Bool) → a && b ≡ true → (a ≡ true) × (b ≡ true)
+pub both_true : (a b : Bool) → a && b ≡ true → (a ≡ true) × (b ≡ true)
 both_true true true e = (refl, refl)
 both_true true false e = absurd cc
 both_true false b e = absurd cc

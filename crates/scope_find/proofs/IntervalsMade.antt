@@ -1,6 +1,6 @@
 -- The intervals that are made of the events so far hold at each address before the events that are left.
 use Rattle.std.proofs.Common.{◌≡◌, ◌⊎◌, ℕ, zero, suc, ◌+◌, ◌<◌, ◌≤◌, false, cond, leb, List, [], ◌∷◌, ◌++◌, length, get_or, take, drop, min, Option, Some, None, refl, sym, ap, ◌∙◌, subst, inl, inr, arith}
-use Rattle.std.specs.Prelude.{slice_get, Result, Ok, Err, OnOk}
+use Rattle.std.specs.Prelude.{slice_get}
 use Rattle.std.specs.List.{Contains}
 use Rattle.std.specs.List.Sorted.{IsNonDecreasingBy}
 use Rattle.std.proofs.Math.Seq.{drop-cons}
@@ -11,10 +11,13 @@ use Rattle.std.proofs.lemmas.List.Elements.{Contains-get_or, Contains-append_cas
 use Rattle.std.proofs.lemmas.Option.{slice_get_within, get_or_from_slice_get}
 use Rattle.dwarf_inline.specs.Structure.{ProgramStructure}
 use Rattle.scope_find.specs.declared.intervals.AddressInterval.{AddressInterval}
+use Rattle.scope_find.specs.declared.calls.NextCall.{NextCall}
 use Rattle.scope_find.specs.declared.span.Span.{Span}
 use Rattle.scope_find.specs.declared.span.Event.{Event}
 use Rattle.scope_find.specs.private.Spans.{AreEventsOf, AreSpans, Takes, IsOpenAfter, IsOpenAt}
-use Rattle.scope_find.specs.private.Intervals.{KeepsLists, interval_at, IsRightInterval, IsRightAt, AreIntervalsOf, IsFollowed, IsIntervalPut, AreAbove, IsSwept}
+use Rattle.scope_find.specs.private.Calls.{IsNextIn, AreLatest, AreBefore, AreSorted}
+use Rattle.scope_find.specs.private.Intervals.{interval_at, IsRightAt, AreIntervalsOf, IsFollowed, IsIntervalPut, AreAbove, IsSwept}
+use Rattle.scope_find.proofs.CallsKept.{calls_stay, next_moved}
 use Rattle.scope_find.proofs.Procedures.{no_procedure}
 use Rattle.scope_find.proofs.Sweeping.{open_more, open_at, spans_after}
 
@@ -29,18 +32,9 @@ interval_before intervals p address lt = interval_push intervals p address ∙ r
 pub interval_from : (intervals : List AddressInterval) (p : AddressInterval) (address : ℕ) → p.start ≤ address → interval_at (intervals ++ p ∷ []) address ≡ Some p
 interval_from intervals p address le = interval_push intervals p address ∙ rw (le-leb p.start address le) refl
 
-kept_interval : (s : ProgramStructure) (before lists : List (List ℕ)) (address : ℕ) → KeepsLists before lists → (p : AddressInterval) → IsRightInterval s before address p → IsRightInterval s lists address p
-kept_interval s before lists address keeps p is = record {
-  procedure = is.procedure;
-  numbers = is.numbers;
-  there = keeps p.inlines is.numbers is.there;
-  known = is.known;
-  calls = is.calls;
-}
-
-kept_right : (s : ProgramStructure) (before lists : List (List ℕ)) (address : ℕ) → KeepsLists before lists → (o : Option AddressInterval) → IsRightAt s before address o → IsRightAt s lists address o
-kept_right s before lists address keeps None is = is
-kept_right s before lists address keeps (Some p) is = kept_interval s before lists address keeps p is
+calls_kept : (s : ProgramStructure) (before calls : List NextCall) (address : ℕ) → ((m next : ℕ) → IsNextIn before m address next → IsNextIn calls m address next) → (o : Option AddressInterval) → IsRightAt s before address o → IsRightAt s calls address o
+calls_kept s before calls address keeps None is = is
+calls_kept s before calls address keeps (Some p) is = record { procedure = is.procedure; levels_are = is.levels_are; has = calls_stay s before calls address keeps p.subprogram is.has }
 
 -- ---- events before and after one
 
@@ -144,15 +138,21 @@ spans_taken s events k e before held are sorted at takes after =
 later_event : (events : List Event) (k : ℕ) (e : Event) → slice_get events k ≡ Some e → (x : Event) → Contains (drop (k + 1) events) x → Contains (drop k events) x
 later_event events k e at x has = subst (λ (es : List Event). Contains es x) (sym (drop_next events k e at)) (suc has.0, omega (arith, has.1), has.2)
 
+this_event : (events : List Event) (k : ℕ) (e : Event) → slice_get events k ≡ Some e → Contains (drop k events) e
+this_event events k e at = subst (λ (es : List Event). Contains es e) (sym (drop_next events k e at)) (zero, omega arith, refl)
+
 -- no interval is put where the next event is at the same address
-pub swept_on : (s : ProgramStructure) (events : List Event) (k : ℕ) (e : Event) (before held : List Span) (intervals : List AddressInterval) (lists : List (List ℕ)) → AreEventsOf s events → IsNonDecreasingBy (λ x. x.address) events → slice_get events k ≡ Some e → Takes e held before
-    → IsFollowed (drop (k + 1) events) e.address → IsSwept s events k before intervals lists → IsSwept s events (k + 1) held intervals lists
-swept_on s events k e before held intervals lists are sorted at takes next swept =
+pub swept_on : (s : ProgramStructure) (events : List Event) (k : ℕ) (e : Event) (before held : List Span) (intervals : List AddressInterval) (calls : List NextCall) (latest : List ℕ) → AreEventsOf s events → IsNonDecreasingBy (λ x. x.address) events → slice_get events k ≡ Some e → Takes e held before
+    → IsFollowed (drop (k + 1) events) e.address → IsSwept s events k before intervals calls latest → IsSwept s events (k + 1) held intervals calls latest
+swept_on s events k e before held intervals calls latest are sorted at takes next swept =
     let t = taken_of s events k e before held are sorted at takes in
     record {
       after = after_more s events k e before held t swept.after;
       rising = swept.rising;
       passed = λ p is x has. swept.passed p is x (later_event events k e at x has);
+      long = swept.long;
+      latest_are = swept.latest_are;
+      behind = λ n is x has. swept.behind n is x (later_event events k e at x has);
       right = λ address above.
           swept.right address (above_more events k e at address above (let lt : address < next.event.address = above next.event next.there in let le : next.event.address ≤ e.address = next.at in omega arith));
     }
@@ -173,15 +173,22 @@ rising_more intervals p rising above i j d le lt = elim (cases_lt j (length inte
       ])
 ]
 
-pub swept_put : (s : ProgramStructure) (events : List Event) (k : ℕ) (e : Event) (before held : List Span) (intervals more : List AddressInterval) (lists kept : List (List ℕ)) → AreEventsOf s events → IsNonDecreasingBy (λ x. x.address) events → slice_get events k ≡ Some e → Takes e held before
-    → IsIntervalPut s held e.address intervals more kept → KeepsLists lists kept → IsSwept s events k before intervals lists → IsSwept s events (k + 1) held more kept
-swept_put s events k e before held intervals more lists kept are sorted at takes put keeps swept =
+-- the next calls so far begin before the event
+pub calls_behind : (s : ProgramStructure) (events : List Event) (k : ℕ) (e : Event) (held : List Span) (intervals : List AddressInterval) (calls : List NextCall) (latest : List ℕ) → slice_get events k ≡ Some e → IsSwept s events k held intervals calls latest → (item : ℕ) → AreBefore calls item e.address
+calls_behind s events k e held intervals calls latest at swept item n has same = swept.behind n has e (this_event events k e at)
+
+pub swept_put : (s : ProgramStructure) (events : List Event) (k : ℕ) (e : Event) (before held : List Span) (intervals more : List AddressInterval) (calls after : List NextCall) (latest latest_after : List ℕ) → AreEventsOf s events → IsNonDecreasingBy (λ x. x.address) events → slice_get events k ≡ Some e → Takes e held before
+    → AreAbove (drop (k + 1) events) e.address → IsIntervalPut s held e.address intervals more calls after latest_after → IsSwept s events k before intervals calls latest → IsSwept s events (k + 1) held more after latest_after
+swept_put s events k e before held intervals more calls after latest latest_after are sorted at takes last put swept =
     let t = taken_of s events k e before held are sorted at takes in
     record {
       after = after_more s events k e before held t swept.after;
       rising = subst (λ (ps : List AddressInterval). IsNonDecreasingBy (λ x. x.start) ps) (sym put.pushed) (rising_more intervals put.interval swept.rising (λ x is. up x is));
       passed = λ p is x has. past p (subst (λ (ps : List AddressInterval). Contains ps p) put.pushed is) x has;
-      right = λ address above. subst (λ (ps : List AddressInterval). IsRightAt s kept address (interval_at ps address)) (sym put.pushed) (now address above (cases_lt address e.address));
+      long = put.put.long;
+      latest_are = put.put.latest_are;
+      behind = λ n is x has. (let le : n.start ≤ e.address = put.put.until n is in let lt : e.address < x.address = last x has in omega arith);
+      right = λ address above. subst (λ (ps : List AddressInterval). IsRightAt s after address (interval_at ps address)) (sym put.pushed) (now address above (cases_lt address e.address));
     }
   where
     starts : put.interval.start ≡ e.address
@@ -189,7 +196,7 @@ swept_put s events k e before held intervals more lists kept are sorted at takes
 
     up : (x : AddressInterval) → Contains intervals x → x.start ≤ put.interval.start
     up x is =
-        let le : x.start ≤ e.address = swept.passed x is e (subst (λ (es : List Event). Contains es e) (sym (drop_next events k e at)) (zero, omega arith, refl)) in
+        let le : x.start ≤ e.address = swept.passed x is e (this_event events k e at) in
         let b : put.interval.start ≡ e.address = put.starts in
         omega arith
 
@@ -202,21 +209,22 @@ swept_put s events k e before held intervals more lists kept are sorted at takes
           subst (λ (z : AddressInterval). z.start ≤ x.address) new (omega arith))
     ]
 
-    now : (address : ℕ) → AreAbove (drop (k + 1) events) address → (address < e.address) ⊎ (e.address ≤ address) → IsRightAt s kept address (interval_at (intervals ++ put.interval ∷ []) address)
+    now : (address : ℕ) → AreAbove (drop (k + 1) events) address → (address < e.address) ⊎ (e.address ≤ address) → IsRightAt s after address (interval_at (intervals ++ put.interval ∷ []) address)
     now address above (inl lt) =
         let b : put.interval.start ≡ e.address = put.starts in
-        subst (λ (o : Option AddressInterval). IsRightAt s kept address o) (sym (interval_before intervals put.interval address (omega arith)))
-        (kept_right s lists kept address keeps (interval_at intervals address) (swept.right address (above_more events k e at address above lt)))
+        subst (λ (o : Option AddressInterval). IsRightAt s after address o) (sym (interval_before intervals put.interval address (omega arith)))
+        (calls_kept s calls after address (λ m next is. put.put.keeps m address next lt is) (interval_at intervals address) (swept.right address (above_more events k e at address above lt)))
     now address above (inr le) =
         let b : put.interval.start ≡ e.address = put.starts in
-        subst (λ (o : Option AddressInterval). IsRightAt s kept address o) (sym (interval_from intervals put.interval address (omega arith)))
-        (put.right address (open_from s events k e before held (taken_of s events k e before held are sorted at takes) swept.after address le above))
+        subst (λ (o : Option AddressInterval). IsRightAt s after address o) (sym (interval_from intervals put.interval address (omega arith)))
+        (let o = open_from s events k e before held (taken_of s events k e before held are sorted at takes) swept.after address le above in
+        record { procedure = put.procedure address o; levels_are = put.put.levels_are address o; has = put.put.has address le o })
 
 -- ---- the first event, and the last
 
-pub swept_first : (s : ProgramStructure) (events : List Event) (held : List Span) (intervals : List AddressInterval) (lists : List (List ℕ)) → AreEventsOf s events → held ≡ [] → intervals ≡ [] → IsSwept s events 0 held intervals lists
-swept_first s events held intervals lists are none empty =
-    subst (λ (hs : List Span). IsSwept s events 0 hs intervals lists) (sym none) (subst (λ (ps : List AddressInterval). IsSwept s events 0 [] ps lists) (sym empty) start)
+pub swept_first : (s : ProgramStructure) (events : List Event) (held : List Span) (intervals : List AddressInterval) (calls : List NextCall) (latest : List ℕ) → AreEventsOf s events → held ≡ [] → intervals ≡ [] → calls ≡ [] → length latest ≡ length s.items → AreLatest calls latest → IsSwept s events 0 held intervals calls latest
+swept_first s events held intervals calls latest are none empty no_calls long latest_are =
+    subst (λ (hs : List Span). IsSwept s events 0 hs intervals calls latest) (sym none) (subst (λ (ps : List AddressInterval). IsSwept s events 0 [] ps calls latest) (sym empty) start)
   where
     nothing : {X : Type 0} (x : X) → Contains [] x → ⊥
     nothing x has = omega (arith, has.1)
@@ -228,23 +236,37 @@ swept_first s events held intervals lists are none empty =
       all = λ q is ended. absurd (nothing (record { address = q.start; span = q }) is);
     }
 
-    start : IsSwept s events 0 [] [] lists
+    start : IsSwept s events 0 [] [] calls latest
     start = record {
       after = opened;
       rising = λ i j d le lt. absurd (omega arith);
       passed = λ p is x has. absurd (nothing p is);
+      long = long;
+      latest_are = latest_are;
+      behind = λ n is x has. absurd (nothing n (subst (λ (ns : List NextCall). Contains ns n) no_calls is));
       right = λ address above. no_procedure s [] address (open_at s events are [] events refl [] opened address (λ x is. absurd (nothing x is)) above) (λ q is kind. absurd (nothing q is));
     }
 
-pub swept_all : (s : ProgramStructure) (events : List Event) (k : ℕ) (held : List Span) (intervals : List AddressInterval) (lists : List (List ℕ)) → length events ≤ k → IsSwept s events k held intervals lists → AreIntervalsOf s intervals lists
-swept_all s events k held intervals lists all swept = record {
+pub swept_all : (s : ProgramStructure) (events : List Event) (k : ℕ) (held : List Span) (intervals : List AddressInterval) (calls sorted : List NextCall) (latest : List ℕ) → length events ≤ k → IsSwept s events k held intervals calls latest → AreSorted calls sorted → AreIntervalsOf s intervals sorted
+swept_all s events k held intervals calls sorted latest all swept same = record {
   rising = swept.rising;
-  right = λ address. swept.right address (λ x has. absurd (let i = in_drop events k x has in let a : k ≤ i.at = i.from in let b : i.at < length events = i.within in omega arith));
+  right = λ address. calls_kept s calls sorted address (λ m next is. next_moved calls sorted same.moved m address next is) (interval_at intervals address) (swept.right address (λ x has. absurd (let i = in_drop events k x has in let a : k ≤ i.at = i.from in let b : i.at < length events = i.within in omega arith)));
 }
 
 abbrev pub no_event : Event
 no_event = record { address = 0; span = record { inlined = false; item = 0; start = 0; end = 0 } }
 
-pub both_ok : {A E : Type 0} (r : Result A E) (P Q R : Type 0) → OnOk r P → OnOk r Q → (P → Q → R) → OnOk r R
-both_ok (Ok x) P Q R p q f = f p q
-both_ok (Err e) P Q R p q f = tt
+-- ---- the events after one address
+
+pub above_from : (events : List Event) → IsNonDecreasingBy (λ e. e.address) events → (k : ℕ) (e : Event) (address : ℕ) → slice_get events k ≡ Some e → address < e.address → AreAbove (drop k events) address
+above_from events sorted k e address at lt x has =
+    let i = in_drop events k x has in
+    let from : k ≤ i.at = i.from in
+    let le = sorted k i.at x (omega arith) i.within in
+    let a : get_or events i.at x ≡ x = i.same in
+    let b : get_or events k x ≡ e = get_or_from_slice_get events k e x at in
+    let up : e.address ≤ x.address = subst (λ (z : Event). z.address ≤ x.address) b (subst (λ (z : Event). (get_or events k x).address ≤ z.address) a le) in
+    omega arith
+
+pub above_none : (events : List Event) (k address : ℕ) → length events ≤ k → AreAbove (drop k events) address
+above_none events k address past x has = absurd (let i = in_drop events k x has in let a : k ≤ i.at = i.from in let b : i.at < length events = i.within in omega arith)

@@ -7,6 +7,8 @@ pub mod Chains
 pub mod Descending
 pub mod Events
 pub mod Sweeping
+pub mod CallsKept
+pub mod CallsFound
 pub mod IntervalsMade
 pub mod IntervalsFound
 pub mod SymbolsFound

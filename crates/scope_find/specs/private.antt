@@ -1,4 +1,5 @@
 pub mod Spans
+pub mod Calls
 pub mod Intervals
 pub mod Scopes
 pub mod Starts

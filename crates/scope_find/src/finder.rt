@@ -1,14 +1,15 @@
 //! Finding the scopes at an address.
-ghost use Rattle.std.specs.Prelude.{◌≡◌, ◌<◌, length, map, All, IfOk, IfSome, unwrap_or};
+ghost use Rattle.std.specs.Prelude.{◌≡◌, ◌<◌, length, map, IfOk, IfSome, unwrap_or};
 ghost use Rattle.dwarf_line.specs.Sequences.{line_at};
 ghost use Rattle.scope_types.specs.declared.scope.LineId.TheVariants as lines;
 ghost use Rattle.scope_find.specs.Found.{inline_scope, found_at, naming_of};
 ghost use Rattle.scope_find.specs.Views.{inline_view, found_view};
-ghost use Rattle.scope_find.specs.private.Intervals.{numbers_of};
-ghost use Rattle.scope_find.specs.private.Scopes.{subprogram_of, numbers_in, procedure_by, scopes_by};
+ghost use Rattle.scope_find.specs.private.Calls.{HasCallsAt, AreInOrder};
+ghost use Rattle.scope_find.specs.private.Spans.{calls_at};
+ghost use Rattle.scope_find.specs.private.Scopes.{subprogram_of, levels_of, procedure_by};
 
 use crate::found::{Found, InlineAt};
-use crate::intervals::{AddressInterval, AddressIntervals, interval_at, intervals_of};
+use crate::intervals::{AddressInterval, AddressIntervals, interval_at, intervals_of, next_call};
 use crate::names::{name_at_start, procedure_by_symbol, symbols_by_start};
 use dwarf_inline::{Structure, Subroutine};
 use dwarf_line::LineTable;
@@ -22,30 +23,28 @@ use std::marker::Model;
 #[derive(Drop)]
 pub struct Finder<'a> {
     alloc: Global,
-    structure: &'a Structure<'a>,
     lines: &'a LineTable<'a>,
     image: &'a Image<'a>,
-    found: AddressIntervals,
+    found: AddressIntervals<'a>,
     /// The function symbols in the order of their starts.
     starts: Vec<Function<'a>>,
 }
 
 impl<'a> Model for Finder<'a> {
     ghost use Rattle.scope_find.specs.Found.{ProgramScopes};
-    ghost use Rattle.scope_find.specs.private.Intervals.{numbers_of};
     ghost use Rattle.scope_find.specs.private.Starts.{IsFinder};
 
     ghost Value = { ProgramScopes };
 
     ghost view = { λ finder. record {
-      structure = finder.structure.now;
+      structure = finder.found.structure.now;
       lines = finder.lines.now;
       image = finder.image.now;
     } };
 
     ghost invariant = { λ finder.
-        IsFinder finder.structure.now finder.image.now.functions finder.found.intervals.items
-        (numbers_of finder.found.lists.items) finder.starts.items };
+        IsFinder finder.found.structure.now finder.image.now.functions finder.found.intervals.items
+        finder.found.calls.items finder.starts.items };
 }
 
 fn subprogram_of(interval: Option<AddressInterval>) -> Option<u32>
@@ -57,16 +56,12 @@ fn subprogram_of(interval: Option<AddressInterval>) -> Option<u32>
     }
 }
 
-/// The numbers of the calls that are inlined in an interval, the outermost first.
-fn numbers_in(found: &AddressIntervals, interval: Option<AddressInterval>) -> &[u32]
-    ensures { result.now ≡ numbers_in (numbers_of found.now.lists.items) interval }
+fn levels_of(interval: Option<AddressInterval>) -> u32
+    ensures { result ≡ levels_of interval }
 {
-    let Some(interval) = interval else {
-        return &[];
-    };
-    match found.lists.get(interval.inlines) {
-        Some(list) => list.as_slice(),
-        None => &[],
+    match interval {
+        Some(interval) => interval.levels,
+        None => 0,
     }
 }
 
@@ -94,17 +89,31 @@ fn inline_of(item: Subroutine) -> InlineAt
     }
 }
 
+/// The calls that are inlined at an address into a subprogram, the outermost first. There are `levels` of them.
 fn inlines_of(
     alloc: Global,
-    structure: &Structure<'_>,
-    numbers: &[u32],
+    found: &AddressIntervals<'_>,
+    pc: u32,
+    subprogram: Option<u32>,
+    levels: u32,
 ) -> Result<Vec<InlineAt>, Memory>
-    requires { All (λ number. number < length structure.now.items) numbers.now }
-    ensures { IfOk result (λ inlines. map inline_view inlines.items ≡ scopes_by structure.now numbers.now) }
+    requires order { AreInOrder found.now.calls.items }
+    requires calls { HasCallsAt found.now.structure.now found.now.calls.items pc subprogram }
+    requires levels { levels ≡ length (calls_at found.now.structure.now pc subprogram) }
+    ensures { IfOk result (λ inlines.
+        map inline_view inlines.items ≡ map inline_scope (calls_at found.now.structure.now pc subprogram)) }
 {
     let mut inlines = Vec::new(alloc);
-    for number in numbers {
-        inlines.push(inline_of(structure.subroutine(*number)))?;
+    let Some(number) = subprogram else {
+        return Ok(inlines);
+    };
+    let mut item = number;
+    let mut left = levels;
+    while left > 0 {
+        let next = next_call(found, pc, item);
+        inlines.push(inline_of(found.structure.subroutine(next)))?;
+        item = next;
+        left -= 1;
     }
     Ok(inlines)
 }
@@ -131,7 +140,6 @@ impl<'a> Finder<'a> {
         let starts = symbols_by_start(alloc, image)?;
         Ok(Finder {
             alloc,
-            structure,
             lines,
             image,
             found,
@@ -144,22 +152,19 @@ impl<'a> Finder<'a> {
     pub fn levels_at(&self, pc: u32) -> u32
         ensures { result ≡ length (found_at self.now pc).inlines }
     {
-        let interval = interval_at(self.found.intervals.as_slice(), pc);
-        numbers_in(&self.found, interval).len() as u32
+        levels_of(interval_at(self.found.intervals.as_slice(), pc))
     }
 
-    /// The scopes at an address (DWARF 5, sections 3.3 and 6.2). Takes time logarithmic in the number of ranges, and
-    /// linear in the inlined calls.
+    /// The scopes at an address (DWARF 5, sections 3.3 and 6.2). Takes time logarithmic in the number of ranges, for each
+    /// of the inlined calls too.
     pub fn scopes_at(&self, pc: u32) -> Result<Found, Memory>
         ensures { IfOk result (λ found. found_view found ≡ found_at self.now pc) }
     {
         let interval = interval_at(self.found.intervals.as_slice(), pc);
-        let procedure = procedure_of(self.structure, self.image, pc, subprogram_of(interval));
-        let inlines = inlines_of(
-            self.alloc,
-            self.structure,
-            numbers_in(&self.found, interval),
-        )?;
+        let subprogram = subprogram_of(interval);
+        let procedure = procedure_of(self.found.structure, self.image, pc, subprogram);
+        let levels = levels_of(interval);
+        let inlines = inlines_of(self.alloc, &self.found, pc, subprogram, levels)?;
         Ok(Found {
             procedure,
             inlines: Listed::of(inlines),
@@ -173,7 +178,7 @@ impl<'a> Finder<'a> {
         ensures { IfOk result (λ name. name ≡ (naming_of self.now).proc_name id) }
     {
         match id {
-            ProcId::Die(offset) => Text::of(self.alloc, self.structure.proc_name(offset)),
+            ProcId::Die(offset) => Text::of(self.alloc, self.found.structure.proc_name(offset)),
             ProcId::Sym(start) => Text::of(
                 self.alloc,
                 name_at_start(self.starts.as_slice(), start),

@@ -6,6 +6,7 @@
 //! `dwarf_forms`, `elf_image`, `address_ranges`, `tree_types`, `scope_types` and `prof_bytes`.
 #![tactic(auto)]
 
+mod calls;
 mod finder;
 mod found;
 mod held;

@@ -1,27 +1,16 @@
 -- The intervals of addresses that the same items hold, and what is kept for each.
-use Rattle.std.specs.Prelude.{◌≡◌, ℕ, ◌<◌, ◌≤◌, nat_le, List, [], ◌∷◌, ◌++◌, length, map, find, reverse, take, drop}
-use Rattle.std.specs.Prelude.{Option, Some, None, slice_get, slice_index_or, All, Vec}
-use Rattle.std.specs.Global.{Global}
+use Rattle.std.specs.Prelude.{◌≡◌, ℕ, ◌<◌, ◌≤◌, nat_le, List, [], ◌∷◌, ◌++◌, length, find, reverse, take, drop}
+use Rattle.std.specs.Prelude.{Option, Some, None, slice_index_or}
 use Rattle.std.specs.List.{Contains}
 use Rattle.std.specs.List.Sorted.{IsNonDecreasingBy}
-use Rattle.dwarf_inline.specs.declared.subroutine.Subroutine.{Subroutine}
 use Rattle.dwarf_inline.specs.Structure.{ProgramStructure, IsWholeStructure}
 use Rattle.scope_find.specs.declared.intervals.AddressInterval.{AddressInterval}
+use Rattle.scope_find.specs.declared.calls.NextCall.{NextCall}
 use Rattle.scope_find.specs.declared.span.Span.{Span}
 use Rattle.scope_find.specs.declared.span.Event.{Event}
 use Rattle.scope_find.specs.Found.{subprogram_at}
-use Rattle.scope_find.specs.private.Spans.{IsOpenAfter, IsOpenAt, IsProcedureAt, items_at, into_number}
-
--- ---- lists of numbers
-
--- lists as contracts see them
-abbrev pub numbers_of : List (Vec ℕ Global) → List (List ℕ)
-numbers_of lists = map (λ v. v.items) lists
-
--- each list keeps its index
-abbrev pub KeepsLists : List (List ℕ) → List (List ℕ) → Type 0
-KeepsLists before lists =
-    (at : ℕ) (numbers : List ℕ) → slice_get before at ≡ Some numbers → slice_get lists at ≡ Some numbers
+use Rattle.scope_find.specs.private.Spans.{IsOpenAfter, IsOpenAt, IsProcedureAt, calls_at}
+use Rattle.scope_find.specs.private.Calls.{HasCallsAt, AreLatest, AreCallsPut, AreInOrder}
 
 -- ---- intervals
 
@@ -29,35 +18,30 @@ KeepsLists before lists =
 abbrev pub interval_at : List AddressInterval → ℕ → Option AddressInterval
 interval_at intervals address = find (λ p. nat_le p.start address) (reverse intervals)
 
--- the calls that are inlined at an address into a subprogram, by its number
-abbrev pub calls_at : ProgramStructure → ℕ → Option ℕ → List Subroutine
-calls_at s address None = []
-calls_at s address (Some number) = into_number s address number
-
--- an interval has the procedure and the inlined calls of an address
-pub record IsRightInterval (s : ProgramStructure) (lists : List (List ℕ)) (address : ℕ)
+-- an interval has the procedure of an address and the number of calls that are inlined there, and the next calls say
+-- which these are
+pub record IsRightInterval (s : ProgramStructure) (calls : List NextCall) (address : ℕ)
     (p : AddressInterval) : Type 0 where
   pub procedure : IsProcedureAt s address p.subprogram
-  pub numbers : List ℕ
-  pub there : slice_get lists p.inlines ≡ Some numbers
-  pub known : All (λ number. number < length s.items) numbers
-  pub calls : items_at s numbers ≡ calls_at s address p.subprogram
+  pub levels_are : p.levels ≡ length (calls_at s address p.subprogram)
+  pub has : HasCallsAt s calls address p.subprogram
 
 -- no interval holds an address without a subprogram, and else the interval that does is right
-abbrev pub IsRightAt : ProgramStructure → List (List ℕ) → ℕ → Option AddressInterval → Type 0
-IsRightAt s lists address None = subprogram_at s address ≡ None
-IsRightAt s lists address (Some p) = IsRightInterval s lists address p
+abbrev pub IsRightAt : ProgramStructure → List NextCall → ℕ → Option AddressInterval → Type 0
+IsRightAt s calls address None = subprogram_at s address ≡ None
+IsRightAt s calls address (Some p) = IsRightInterval s calls address p
 
--- each address has the procedure and the inlined calls of its interval
+-- each address has the procedure of its interval, and the inlined calls by the next calls
 pub record AreIntervalsOf (s : ProgramStructure) (intervals : List AddressInterval)
-    (lists : List (List ℕ)) : Type 0 where
+    (calls : List NextCall) : Type 0 where
   pub rising : IsNonDecreasingBy (λ p. p.start) intervals
-  pub right : (address : ℕ) → IsRightAt s lists address (interval_at intervals address)
+  pub right : (address : ℕ) → IsRightAt s calls address (interval_at intervals address)
 
--- what is so of the intervals that are kept for a structure
-pub record IsFoundIn (s : ProgramStructure) (intervals : List AddressInterval) (lists : List (List ℕ)) : Type 0 where
+-- what is so of the intervals and the next calls that are kept for a structure
+pub record IsFoundIn (s : ProgramStructure) (intervals : List AddressInterval) (calls : List NextCall) : Type 0 where
   pub whole : IsWholeStructure s
-  pub intervals_are : AreIntervalsOf s intervals lists
+  pub intervals_are : AreIntervalsOf s intervals calls
+  pub in_order : AreInOrder calls
 
 -- ---- how they are made
 
@@ -67,13 +51,14 @@ pub record IsFollowed (events : List Event) (address : ℕ) : Type 0 where
   pub there : Contains events event
   pub at : event.address ≤ address
 
--- an interval was put that begins at an address, with the procedure and the inlined calls where these ranges are open
+-- an interval was put that begins at an address, with the procedure where these ranges are open, and the next calls
 pub record IsIntervalPut (s : ProgramStructure) (held : List Span) (start : ℕ) (before intervals : List AddressInterval)
-    (lists : List (List ℕ)) : Type 0 where
+    (calls_before calls : List NextCall) (latest : List ℕ) : Type 0 where
   pub interval : AddressInterval
   pub pushed : intervals ≡ before ++ interval ∷ []
   pub starts : interval.start ≡ start
-  pub right : (address : ℕ) → IsOpenAt s held address → IsRightInterval s lists address interval
+  pub procedure : (address : ℕ) → IsOpenAt s held address → IsProcedureAt s address interval.subprogram
+  pub put : AreCallsPut s held interval.subprogram start interval.levels calls_before calls latest
 
 -- all events are above an address
 abbrev pub AreAbove : List Event → ℕ → Type 0
@@ -81,13 +66,16 @@ AreAbove events address = (e : Event) → Contains events e → address < e.addr
 
 -- `count` events were taken
 pub record IsSwept (s : ProgramStructure) (events : List Event) (count : ℕ) (held : List Span)
-    (intervals : List AddressInterval) (lists : List (List ℕ)) : Type 0 where
+    (intervals : List AddressInterval) (calls : List NextCall) (latest : List ℕ) : Type 0 where
   pub after : IsOpenAfter (take count events) held
   pub rising : IsNonDecreasingBy (λ p. p.start) intervals
   pub passed : (p : AddressInterval) → Contains intervals p → (e : Event) → Contains (drop count events) e
       → p.start ≤ e.address
+  pub long : length latest ≡ length s.items
+  pub latest_are : AreLatest calls latest
+  pub behind : (n : NextCall) → Contains calls n → (e : Event) → Contains (drop count events) e → n.start < e.address
   pub right : (address : ℕ) → AreAbove (drop count events) address
-      → IsRightAt s lists address (interval_at intervals address)
+      → IsRightAt s calls address (interval_at intervals address)
 
 -- ---- how one is found
 

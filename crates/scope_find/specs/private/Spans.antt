@@ -1,5 +1,5 @@
 -- The ranges of items as spans, the events where they start and end, and what is open at an address.
-use Rattle.std.specs.Prelude.{◌≡◌, ◌≢◌, ◌⊎◌, ℕ, ◌+◌, ◌<◌, ◌≤◌, Bool, false, List, [], ◌∷◌, map, drop}
+use Rattle.std.specs.Prelude.{◌≡◌, ◌≢◌, ◌⊎◌, ℕ, ◌<◌, ◌≤◌, Bool, false, List, [], ◌∷◌, drop}
 use Rattle.std.specs.Prelude.{Option, Some, None, slice_get, slice_index_or}
 use Rattle.std.specs.List.{flat_map, Contains}
 use Rattle.dwarf_inline.specs.declared.subroutine.Subroutine.{Subroutine}
@@ -109,17 +109,6 @@ IsProcedureAt s address (Some number) = IsProcedure s address number
 abbrev pub inlined_from : ProgramStructure → ℕ → ℕ → ℕ → List Subroutine
 inlined_from s address low end = inlined_before s address end (drop low (numbered s))
 
--- the item with that number is the first of these calls, and the others are inlined into it
-pub record IsInlinedNext (s : ProgramStructure) (address low end number : ℕ) : Type 0 where
-  pub item : Subroutine
-  pub there : slice_get s.items number ≡ Some item
-  pub next : inlined_from s address low end ≡ item ∷ inlined_from s address (number + 1) item.next_after_subtree
-
--- the number is that of the first inlined subroutine at the address, of the items from `low` up to `end`
-abbrev pub IsNextInlined : ProgramStructure → ℕ → ℕ → ℕ → Option ℕ → Type 0
-IsNextInlined s address low end None = inlined_from s address low end ≡ []
-IsNextInlined s address low end (Some number) = IsInlinedNext s address low end number
-
 -- the item that a number past the end gives
 abbrev pub no_item : Subroutine
 no_item = record {
@@ -136,10 +125,16 @@ no_item = record {
 abbrev pub item_at : ProgramStructure → ℕ → Subroutine
 item_at s number = slice_index_or s.items number no_item
 
--- the items with these numbers
-abbrev pub items_at : ProgramStructure → List ℕ → List Subroutine
-items_at s numbers = map (item_at s) numbers
-
--- the calls that are inlined at an address into the subprogram with a number
+-- the calls that are inlined at an address into the item with a number
 abbrev pub into_number : ProgramStructure → ℕ → ℕ → List Subroutine
 into_number s address number = inlined_into s address (number, item_at s number)
+
+-- the same of a subprogram, where there is one
+abbrev pub calls_at : ProgramStructure → ℕ → Option ℕ → List Subroutine
+calls_at s address None = []
+calls_at s address (Some number) = into_number s address number
+
+-- the number is that of the first call that is inlined into an item at an address; the others are inlined into that call
+abbrev pub IsInlinedNext : ProgramStructure → ℕ → ℕ → Option ℕ → Type 0
+IsInlinedNext s address item None = into_number s address item ≡ []
+IsInlinedNext s address item (Some next) = into_number s address item ≡ item_at s next ∷ into_number s address next

@@ -5,6 +5,7 @@ use Rattle.elf_image.specs.declared.part.Function.{Function}
 use Rattle.elf_image.specs.Image.{FunctionSymbol, symbol_view}
 use Rattle.dwarf_inline.specs.Structure.{ProgramStructure}
 use Rattle.scope_find.specs.declared.intervals.AddressInterval.{AddressInterval}
+use Rattle.scope_find.specs.declared.calls.NextCall.{NextCall}
 use Rattle.scope_find.specs.Symbols.{name_or_unnamed}
 use Rattle.scope_find.specs.private.Intervals.{IsFoundIn}
 
@@ -20,6 +21,6 @@ name_at_start starts start = name_or_unnamed (option_map symbol_view (find (λ f
 
 -- what is so of every finder: the intervals are those of the structure, and the symbols those of the program
 pub record IsFinder (s : ProgramStructure) (functions : List FunctionSymbol) (intervals : List AddressInterval)
-    (lists : List (List ℕ)) (starts : List Function) : Type 0 where
-  pub found : IsFoundIn s intervals lists
+    (calls : List NextCall) (starts : List Function) : Type 0 where
+  pub found : IsFoundIn s intervals calls
   pub starts_are : AreByStart functions starts

@@ -1,8 +1,42 @@
-use Rattle.std.proofs.Common.{get_or, refl}
-use Rattle.scope_find.proofs.Scopes.{scopes_more}
+use Rattle.std.proofs.Common.{◌≡◌, ◌∙◌, ◌++◌, List, Option, ℕ, length, map, sym, subst, ap, arith}
+use Rattle.std.proofs.lemmas.List.{nil_from_length}
+use Rattle.scope_find.specs.declared.found.InlineAt.{InlineAt}
+use Rattle.scope_find.specs.Found.{inline_scope}
+use Rattle.scope_find.specs.Views.{inline_view}
+use Rattle.scope_find.specs.private.Calls.{HasCallsAt}
+use Rattle.scope_find.specs.private.Spans.{into_number, calls_at}
+use Rattle.scope_find.proofs.Scopes.{scopes_more, scopes_all, levels_less}
 use Rattle.scope_find.proofs.finder.inlines_of.Goals as goal
 
-pub loop-number-preserved : goal.loop-number-preserved
-loop-number-preserved c =
-    scopes_more c.args.structure.now c.args.numbers.now c.loop-number.number-index (get_or c.args.numbers.now c.loop-number.number-index 0) c.subroutine.result c.loop-number.inlines.items c.push.new.self.items c.inline_of.result refl c.loop-number-test.true
-    c.subroutine.ensures c.inline_of.ensures c.in_ok-push.ensures.items c.loop-number.invariant
+pub loop-left-init : goal.loop-left-init
+loop-left-init c = record {
+  has = subst (λ (o : Option ℕ). HasCallsAt c.args.found.now.structure.now c.args.found.now.calls.items c.args.pc o) c.in-Some.is c.requires.calls;
+  told =
+      ap (λ (o : Option ℕ). map inline_scope (calls_at c.args.found.now.structure.now c.args.pc o)) c.in-Some.is
+      ∙ ap (λ (is : List InlineAt). map inline_view is ++ map inline_scope (into_number c.args.found.now.structure.now c.args.pc c.in-Some.number)) (sym c.new-inlines.ensures.items);
+  few = c.requires.levels ∙ ap (λ (o : Option ℕ). length (calls_at c.args.found.now.structure.now c.args.pc o)) c.in-Some.is;
+}
+
+pub next_call-next-requires-clause-some : goal.next_call-next-requires-clause-some
+next_call-next-requires-clause-some c = let few = c.loop-left.invariant.few in let some = c.loop-left-test.true in omega arith
+
+pub subroutine-requires : goal.subroutine-requires
+subroutine-requires c = c.next_call-next.ensures.0.within
+
+pub loop-left-preserved : goal.loop-left-preserved
+loop-left-preserved c =
+    let f = c.next_call-next.ensures in
+    record {
+      has = f.1;
+      told =
+          scopes_more c.args.found.now.structure.now c.args.pc c.loop-left.item c.next_call-next.result c.subroutine.result c.loop-left.inlines.items c.push.new.self.items c.inline_of.result _
+          c.subroutine.ensures c.inline_of.ensures c.in_ok-push.ensures.items f.0.calls_are c.loop-left.invariant.told;
+      few = levels_less c.loop-left.left _ _ _ f.0.calls_are c.loop-left.invariant.few;
+    }
+
+pub returns : goal.returns
+returns c =
+    let few = c.loop-left.invariant.few in
+    let past = c.loop-left-test.false in
+    let none : length (into_number c.args.found.now.structure.now c.args.pc c.loop-left.item) ≡ 0 = omega arith in
+    scopes_all c.loop-left.inlines.items _ _ (nil_from_length (into_number c.args.found.now.structure.now c.args.pc c.loop-left.item) none) c.loop-left.invariant.told
