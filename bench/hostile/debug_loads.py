@@ -8,9 +8,9 @@ from row_files import BASE, words
 
 DW_TAG_compile_unit, DW_TAG_inlined_subroutine, DW_TAG_variable = 0x11, 0x1D, 0x34
 DW_AT_name, DW_AT_stmt_list, DW_AT_low_pc, DW_AT_high_pc = 0x03, 0x10, 0x11, 0x12
-DW_AT_ranges, DW_AT_call_file, DW_AT_call_line = 0x55, 0x58, 0x59
+DW_AT_abstract_origin, DW_AT_ranges, DW_AT_call_file, DW_AT_call_line = 0x31, 0x55, 0x58, 0x59
 DW_FORM_addr, DW_FORM_data4, DW_FORM_string = 0x01, 0x06, 0x08
-DW_FORM_data1, DW_FORM_strp, DW_FORM_udata, DW_FORM_sec_offset = 0x0B, 0x0E, 0x0F, 0x17
+DW_FORM_data1, DW_FORM_strp, DW_FORM_udata, DW_FORM_ref4, DW_FORM_sec_offset = 0x0B, 0x0E, 0x0F, 0x13, 0x17
 DW_FORM_flag_present, DW_FORM_line_strp = 0x19, 0x1F
 DW_LNCT_path, DW_LNCT_directory_index = 0x01, 0x02
 DW_RLE_offset_pair, DW_RLE_start_length = 0x04, 0x07
@@ -106,6 +106,14 @@ def long_name(count, length=20_000_000):
     """Subprograms without ranges that all name one long text."""
     table = declaration(1, [(DW_AT_name, DW_FORM_strp)]) + b"\0"
     return structure(elf(info=unit(b"\1\0\0\0\0" * count), abbrev=table, text=b"n" * length + b"\0"))
+
+
+def shared_text(count, length=20_000_000):
+    """Inlined subroutines outside of subprograms whose origin is one subprogram, with a long text in its own entry."""
+    table = (declaration(1, [(DW_AT_name, DW_FORM_string)])
+             + declaration(2, [(DW_AT_abstract_origin, DW_FORM_ref4)], False, DW_TAG_inlined_subroutine) + b"\0")
+    first = len(unit(b""))
+    return structure(elf(info=unit(b"\1" + b"n" * length + b"\0" + (b"\2" + words(first)) * count), abbrev=table))
 
 
 def flags(count):

@@ -3,6 +3,7 @@
 //! and absences are small units put together by hand after DWARF 5, chapter 7.
 use dwarf_info::constants::{DW_TAG_compile_unit, DW_TAG_inlined_subroutine, DW_TAG_subprogram};
 use dwarf_info::{Info, InfoEntry, Outline};
+use scope_types::limits::MOST_NAME_BYTES;
 use std::alloc::Global;
 use std::test::Fail;
 use test_programs::program::{Sections, Unread, info_of};
@@ -63,7 +64,11 @@ fn is_entry(alloc: Global, info: &Info<'_>, number: u32, wanted: &Attributes) ->
         Some(target) => Some(target.offset()),
         None => None,
     };
-    entry.name() == wanted.name
+    let name = match entry.name() {
+        Some(name) => Some(name.cut(MOST_NAME_BYTES)),
+        None => None,
+    };
+    name == wanted.name
         && link == wanted.link
         && entry.call() == wanted.call
         && ranges.pairs() == wanted.ranges

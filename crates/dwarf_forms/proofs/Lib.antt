@@ -2,7 +2,8 @@ pub mod Items
 pub mod Indices
 pub mod Numbered
 pub mod Runs
-pub mod Past
+pub mod Texts
+pub mod WholeNames
 pub mod Moves
 pub mod FormMoves
 pub mod Rooms

@@ -14,6 +14,7 @@ mod read;
 mod section;
 mod sizes;
 mod table;
+mod text;
 mod value;
 mod words;
 
@@ -22,7 +23,8 @@ pub use encoding::is_value_form;
 pub use laws::declaration_count_is_at_most_bytes;
 pub use lookup::{code_at, first_declaration, specs_at};
 pub use read::{read_form, read_value};
-pub use section::{reader_at, text_in};
+pub use section::reader_at;
 pub use table::{attribute, read_abbrevs};
+pub use text::{SectionText, StringSection};
 pub use value::{FormFault, Value};
 pub use words::low_word_signed;

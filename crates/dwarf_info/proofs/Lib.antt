@@ -15,3 +15,4 @@ pub mod Suffixes
 pub mod Outlining
 pub mod CodeLists
 pub mod LocatedEntries
+pub mod WholeNames

@@ -1,10 +1,11 @@
 //! What the values of attributes mean (DWARF 5, sections 7.5.5, 7.26 and 7.27).
-ghost use Rattle.std.specs.Prelude.{◌≡◌, ◌^◌, Some, None, nat_lt, if◌then◌else◌, option_copied, take};
+ghost use Rattle.std.specs.Prelude.{◌≡◌, ◌^◌, Some, None, nat_lt, if◌then◌else◌, option_map, take};
+ghost use Rattle.dwarf_forms.specs.Sections.{section_text, HasNoZero};
 ghost use Rattle.dwarf_forms.specs.Values.{form_value};
 ghost use Rattle.dwarf_info.specs.Sections.{sections_of, section_word, element_in};
 ghost use Rattle.dwarf_info.specs.Attributes.{section_value, constant_value, text_value, address_value};
 
-use dwarf_forms::{Value, text_in};
+use dwarf_forms::{SectionText, StringSection, Value};
 use elf_image::DebugParts;
 use prof_bytes::Cursor;
 
@@ -76,20 +77,26 @@ pub(crate) fn constant_value(value: Value<'_>) -> Option<u32>
     }
 }
 
+/// The text that a value of class `string` gives, by the sections of texts.
 pub(crate) fn text_value<'a>(
     sections: &DebugParts<'a>,
+    str_bytes: &StringSection<'a>,
+    line_str: &StringSection<'a>,
     base: Option<u32>,
     value: Value<'a>,
-) -> Option<&'a [u8]>
-    ensures { option_copied result ≡ text_value (sections_of sections.now) base (form_value value.entry) }
+) -> Option<SectionText<'a>>
+    requires strings { str_bytes.now ≡ sections.now.str_bytes.now }
+    requires line_strings { line_str.now ≡ sections.now.line_str.now }
+    requires name { HasNoZero (form_value value) }
+    ensures { option_map section_text result ≡ text_value (sections_of sections.now) base (form_value value.entry) }
 {
     match value {
-        Value::Name(text) => Some(text),
-        Value::StrAt(offset) => text_in(sections.str_bytes, offset),
-        Value::LineStrAt(offset) => text_in(sections.line_str, offset),
+        Value::Name(text) => Some(SectionText::whole(text)),
+        Value::StrAt(offset) => str_bytes.text(offset),
+        Value::LineStrAt(offset) => line_str.text(offset),
         Value::StrIndex(index) => {
             let offset = element_in(sections.str_offsets, base, index)?;
-            text_in(sections.str_bytes, offset)
+            str_bytes.text(offset)
         }
         _ => None,
     }

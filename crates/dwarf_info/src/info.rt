@@ -1,7 +1,8 @@
 //! Debug information that was read, and the attributes of its entries.
 ghost use Rattle.std.specs.Prelude.{◌≡◌, ◌<◌, ◌^◌, length, map, IfOk, option_map, Some};
-ghost use Rattle.std.specs.Prelude.{option_copied, option_and_then, slice_get, AllPairs, ◌+◌};
+ghost use Rattle.std.specs.Prelude.{option_and_then, slice_get, AllPairs, ◌+◌};
 ghost use Rattle.prof_bytes.specs.Outcome.{Gives};
+ghost use Rattle.dwarf_forms.specs.Sections.{section_text};
 ghost use Rattle.dwarf_forms.specs.Values.{form_value};
 ghost use Rattle.dwarf_info.specs.Sections.{sections_of};
 ghost use Rattle.dwarf_info.specs.Units.{unit_of, debug_info_of};
@@ -25,7 +26,7 @@ use crate::tables::Tables;
 use crate::unit_entries::{add_entries, declared_at, tabled_value};
 use crate::units::{named_tables, read_units};
 use crate::values::value_after;
-use dwarf_forms::Value;
+use dwarf_forms::{SectionText, StringSection, Value};
 use elf_image::DebugParts;
 use prof_bytes::{Fail, Memory};
 use std::alloc::Global;
@@ -35,6 +36,10 @@ use std::marker::Model;
 #[derive(Drop)]
 pub struct Info<'a> {
     sections: DebugParts<'a>,
+    /// `.debug_str`.
+    str_bytes: StringSection<'a>,
+    /// `.debug_line_str`.
+    line_str: StringSection<'a>,
     units: Vec<Unit>,
     contexts: Vec<UnitContext>,
     /// The offsets of the entries of all units.
@@ -58,8 +63,8 @@ impl<'a> Model for Info<'a> {
       entries = flat_map (entries_in (sections_of info.sections)) info.contexts.items;
     } };
 
-    ghost invariant = { λ info. AreInfoParts (sections_of info.sections) info.units.items info.contexts.items
-        info.offsets info.firsts.items info.tables };
+    ghost invariant = { λ info. AreInfoParts (sections_of info.sections) info.str_bytes info.line_str
+        info.units.items info.contexts.items info.offsets info.firsts.items info.tables };
 }
 
 impl<'a> Info<'a> {
@@ -164,13 +169,14 @@ impl<'a> Info<'a> {
     }
 
     #[inline(always)]
-    pub(crate) fn text(&self, at: &Located<'_>, attribute: u64) -> Option<&'a [u8]>
+    pub(crate) fn text(&self, at: &Located<'_>, attribute: u64) -> Option<SectionText<'a>>
         requires { IsLocated self.now at.now }
-        ensures { option_copied result
+        ensures { option_map section_text result
             ≡ option_and_then (attribute_text self.now attribute) (unit_entry self.now at.now.index) }
     {
         let value = self.value(at, attribute)?;
-        text_value(&self.sections, at.context.str_offsets_base, value)
+        let base = at.context.str_offsets_base;
+        text_value(&self.sections, &self.str_bytes, &self.line_str, base, value)
     }
 
     #[inline(always)]
@@ -266,6 +272,8 @@ pub fn read_info<'a>(alloc: Global, sections: DebugParts<'a>) -> Result<Info<'a>
     let offsets = starts.offsets(alloc)?;
     Ok(Info {
         sections,
+        str_bytes: StringSection::of(sections.str_bytes),
+        line_str: StringSection::of(sections.line_str),
         units,
         contexts,
         offsets,

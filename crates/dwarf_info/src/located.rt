@@ -1,6 +1,7 @@
 //! An entry that was located, and its attributes.
-ghost use Rattle.std.specs.Prelude.{◌≡◌, ◌<◌, ◌^◌, length, IfOk, Some, option_map, option_copied, option_and_then};
+ghost use Rattle.std.specs.Prelude.{◌≡◌, ◌<◌, ◌^◌, length, IfOk, Some, option_map, option_and_then};
 ghost use Rattle.std.specs.Prelude.{slice_get};
+ghost use Rattle.dwarf_forms.specs.Sections.{section_text};
 ghost use Rattle.dwarf_info.specs.Queries.{unit_entry, entry_with, name_of, link_of, call_site_of};
 ghost use Rattle.dwarf_info.specs.Ranges.{one_or_none, ranges_of};
 
@@ -11,7 +12,7 @@ use crate::constants::{
 use crate::entry::UnitContext;
 use crate::info::Info;
 use crate::pairs::Ranges;
-use dwarf_forms::Abbrev;
+use dwarf_forms::{Abbrev, SectionText};
 use prof_bytes::Memory;
 use std::alloc::Global;
 use std::marker::Model;
@@ -75,9 +76,10 @@ impl<'i, 'a> Entry<'i, 'a> {
         self.at.context.stmt_list
     }
 
-    /// Its name (DWARF 5, section 2.15), or else its linkage name (section 2.22).
-    pub fn name(&self) -> Option<&'a [u8]>
-        ensures { option_copied result ≡ name_of self.now.info self.now.index }
+    /// Its name (DWARF 5, section 2.15), or else its linkage name (section 2.22). Of a name in a section of texts no byte
+    /// is looked at.
+    pub fn name(&self) -> Option<SectionText<'a>>
+        ensures { option_map section_text result ≡ name_of self.now.info self.now.index }
     {
         match self.info.text(&self.at, DW_AT_name) {
             Some(name) => Some(name),

@@ -4,9 +4,10 @@ ghost use Rattle.std.specs.List.Sorted.{IsNonDecreasingBy, IsPermutation};
 ghost use Rattle.dwarf_inline.specs.Links.{entry_offset};
 ghost use Rattle.dwarf_inline.specs.private.Names.{named, pair_of};
 
+use dwarf_forms::SectionText;
 use dwarf_info::Entry;
 use prof_bytes::Memory;
-use scope_types::cut_name;
+use scope_types::limits::MOST_NAME_BYTES;
 use std::alloc::Global;
 
 /// The name of a procedure.
@@ -14,7 +15,7 @@ use std::alloc::Global;
 pub(crate) struct ProcName<'a> {
     /// The offset of the procedure's identity in `.debug_info`.
     pub(crate) identity: u32,
-    pub(crate) name: &'a [u8],
+    pub(crate) name: SectionText<'a>,
 }
 
 /// The identities of items.
@@ -49,7 +50,6 @@ fn add_name<'a>(
         ≡ map pair_of names.old.items ++ option_to_list (named entry.now.info entry.now.index identity)) }
 {
     if let Some(name) = entry.name() {
-        let name = cut_name(name);
         names.push(ProcName { identity, name })?;
     }
     Ok(())
@@ -85,7 +85,7 @@ pub(crate) fn sort_names(names: &mut Vec<ProcName<'_>>)
     names.sort_unstable_by_key(|name| name.identity);
 }
 
-/// The name of an identity, by a binary search.
+/// The name of an identity, by a binary search. No more than `MOST_NAME_BYTES` bytes are looked at.
 pub(crate) fn name_in<'a>(names: &[ProcName<'a>], identity: u32) -> Option<&'a [u8]>
     requires { IsNonDecreasingBy (λ n. n.identity) names.now }
     ensures { option_map (λ name. name.now) result
@@ -93,7 +93,7 @@ pub(crate) fn name_in<'a>(names: &[ProcName<'a>], identity: u32) -> Option<&'a [
 {
     let index = names.partition_point(|name| name.identity < identity);
     match names.get(index) {
-        Some(name) if name.identity == identity => Some(name.name),
+        Some(name) if name.identity == identity => Some(name.name.cut(MOST_NAME_BYTES)),
         _ => None,
     }
 }

@@ -13,3 +13,4 @@ pub mod UnkeptTables
 pub mod TableLists
 pub mod CutPaths
 pub mod Within
+pub mod WholePaths

@@ -5,6 +5,7 @@ use Rattle.std.specs.List.{list_any}
 use Rattle.std.proofs.lemmas.List.{map-append}
 use Rattle.prof_bytes.specs.Fields.{Input}
 use Rattle.prof_bytes.specs.Outcome.{◌>>=◌}
+use Rattle.dwarf_forms.specs.Sections.{section_text}
 use Rattle.dwarf_forms.specs.Values.{FormValue, Address, Number, Signed, Bytes, Name, Flag, StrAt, LineStrAt, StrIndex, AddrIndex, UnitRef, InfoRef, Section, ListIndex, Passed, value_from}
 use Rattle.dwarf_line.specs.declared.constants.TheConstants.{DW_LNCT_path, DW_LNCT_directory_index}
 use Rattle.dwarf_line.specs.declared.fault.LineFault.{LineFault}
@@ -23,7 +24,7 @@ ok_then : {X Y : Type 0} (P : Y → Type 0) (read : Read X) (next : X × In → 
 ok_then P (Ok r) next each = each r
 ok_then P (Err f) next each = tt
 
-ok_on : {X Y : Type 0} (Q : X × In → Type 0) (P : Y → Type 0) (read : Read X) (next : X × In → Result Y LineFault) → IfOk read Q → ((r : X × In) → Q r → IfOk (next r) P) → IfOk (read >>= next) P
+pub ok_on : {X Y : Type 0} (Q : X × In → Type 0) (P : Y → Type 0) (read : Read X) (next : X × In → Result Y LineFault) → IfOk read Q → ((r : X × In) → Q r → IfOk (next r) P) → IfOk (read >>= next) P
 ok_on Q P (Ok r) next q each = each r q
 ok_on Q P (Err f) next q each = tt
 
@@ -96,9 +97,9 @@ same_made a b p r n m x y z = rw (x, y, z) refl
 
 -- an entry is added to a list
 pub kept_more : (texts : Texts) (formats : List EntryFormat) (input after : In) (entry : NamedPath) (indexed : Bool) (front : List NameEntry) (kept : NameEntry)
-    → name_entry_from texts formats input ≡ Ok (entry, after) → indexed ≡ has_index formats → kept.path.now ≡ entry.path → kept.directory_index ≡ unwrap_or entry.directory_index 0
+    → name_entry_from texts formats input ≡ Ok (entry, after) → indexed ≡ has_index formats → section_text kept.path ≡ entry.path → kept.directory_index ≡ unwrap_or entry.directory_index 0
     → map (named_entry indexed) (front ++ kept ∷ []) ≡ map (named_entry indexed) front ++ entry ∷ []
 kept_more texts formats input after entry indexed front kept e is path index =
     map-append (named_entry indexed) front (kept ∷ [])
     ∙ ap (λ (last : NamedPath). map (named_entry indexed) front ++ last ∷ [])
-    (same_made indexed (has_index formats) kept.path.now entry.path kept.directory_index (unwrap_or entry.directory_index 0) is path index ∙ entry_kept texts formats input after entry e)
+    (same_made indexed (has_index formats) (section_text kept.path) entry.path kept.directory_index (unwrap_or entry.directory_index 0) is path index ∙ entry_kept texts formats input after entry e)

@@ -2,12 +2,11 @@
 ghost use Rattle.std.specs.Prelude.{◌<◌};
 ghost use Rattle.prof_bytes.specs.Outcome.{Gives};
 ghost use Rattle.dwarf_line.specs.Headers.{header5_from, header_from};
-ghost use Rattle.dwarf_line.specs.Names.{texts_of};
 
 use crate::encoding::LineEncoding;
 use crate::fault::LineFault;
 use crate::names::{NamedPaths, read_names};
-use elf_image::DebugParts;
+use crate::texts::Texts;
 use prof_bytes::{Fail, Reader};
 use std::alloc::Global;
 use std::marker::Model;
@@ -41,10 +40,10 @@ impl<'a> Model for LineHeader<'a> {
 #[tactic(auto, unfolding(crate::specs::Headers::header5_from))]
 fn version5<'a>(
     alloc: Global,
-    sections: &DebugParts<'a>,
+    texts: &Texts<'a>,
     reader: &mut Reader<'a, LineFault>,
 ) -> Result<LineHeader<'a>, Fail<LineFault>>
-    ensures { Gives (λ h. h) result (header5_from (texts_of sections.now) reader.old) }
+    ensures { Gives (λ h. h) result (header5_from texts.now reader.old) }
 {
     let address_size = reader.u8()?;
     let segment_selector_size = reader.u8()?;
@@ -55,8 +54,8 @@ fn version5<'a>(
     let mut program = reader.fork();
     program.take(header_length as usize)?;
     let encoding = LineEncoding::read(reader)?;
-    let directories = read_names(alloc, sections, reader)?;
-    let file_names = read_names(alloc, sections, reader)?;
+    let directories = read_names(alloc, texts, reader)?;
+    let file_names = read_names(alloc, texts, reader)?;
     Ok(LineHeader {
         encoding,
         directories,
@@ -69,14 +68,14 @@ fn version5<'a>(
 #[tactic(auto, unfolding(crate::specs::Headers::header_from))]
 pub(crate) fn read_header<'a>(
     alloc: Global,
-    sections: &DebugParts<'a>,
+    texts: &Texts<'a>,
     reader: &mut Reader<'a, LineFault>,
 ) -> Result<Option<LineHeader<'a>>, Fail<LineFault>>
-    ensures { Gives (λ h. h) result (header_from (texts_of sections.now) reader.old) }
+    ensures { Gives (λ h. h) result (header_from texts.now reader.old) }
 {
     let mut table = reader.part()?;
     match table.u16()? {
-        5 => Ok(Some(version5(alloc, sections, &mut table)?)),
+        5 => Ok(Some(version5(alloc, texts, &mut table)?)),
         2..=4 => Ok(None),
         _ => Err(Fail::Fault(table.missing())),
     }

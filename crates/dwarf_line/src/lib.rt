@@ -20,6 +20,7 @@ mod run;
 mod search;
 mod sequence;
 mod tables;
+mod texts;
 mod unkept;
 
 pub use fault::LineFault;

@@ -5,6 +5,7 @@ ghost use Rattle.std.specs.Result.{IfErr};
 ghost use Rattle.std.specs.Option.{option_copied};
 ghost use Rattle.prof_bytes.specs.Outcome.{Gives, FailsBy};
 ghost use Rattle.scope_types.specs.Limits.{most_name_bytes};
+ghost use Rattle.dwarf_forms.specs.Sections.{section_text};
 ghost use Rattle.dwarf_line.specs.Names.{texts_of};
 ghost use Rattle.dwarf_line.specs.Lines.{table_by, line_table_of, line_tables_of, lines_at, table_with, joined_path};
 ghost use Rattle.dwarf_line.specs.Lines.{directory_path, file_in, file_name_of, unknown_file};
@@ -19,9 +20,10 @@ use crate::names::NamedPaths;
 use crate::run::run;
 use crate::sequence::{Collector, Sequence};
 use crate::tables::Table;
+use crate::texts::Texts;
 use crate::unkept::{UnkeptTable, UnkeptTables};
 use address_ranges::RangeTable;
-use dwarf_forms::reader_at;
+use dwarf_forms::{SectionText, reader_at};
 use elf_image::{DebugParts, Image};
 use prof_bytes::{Fail, Memory, Text, push_some};
 use scope_types::limits::MOST_NAME_BYTES;
@@ -94,15 +96,15 @@ impl<'a> LineTable<'a> {
     }
 }
 
-fn directory_path<'a>(directories: &NamedPaths<'a>, index: Option<u64>) -> &'a [u8]
-    ensures { result.now ≡ directory_path directories.now index }
+fn directory_path<'a>(directories: &NamedPaths<'a>, index: Option<u64>) -> SectionText<'a>
+    ensures { section_text result ≡ directory_path directories.now index }
 {
     let Some(index) = index else {
-        return b"";
+        return SectionText::whole(b"");
     };
     match directories.get(index as usize) {
         Some(entry) => entry.path,
-        None => b"",
+        None => SectionText::whole(b""),
     }
 }
 
@@ -127,13 +129,27 @@ fn joined_path(alloc: Global, directory: &[u8], path: &[u8]) -> Result<Text, Mem
     Text::of(alloc, cut_name(path))
 }
 
+/// The same of texts in sections. No more than `MOST_NAME_BYTES` bytes of each are looked at.
+fn joined_texts(
+    alloc: Global,
+    directory: SectionText<'_>,
+    path: SectionText<'_>,
+) -> Result<Text, Memory>
+    ensures { IfOk result (λ name. name
+        ≡ take most_name_bytes (joined_path (section_text directory.entry) (section_text path.entry))) }
+{
+    let directory = directory.cut(MOST_NAME_BYTES);
+    let path = path.cut(MOST_NAME_BYTES);
+    joined_path(alloc, directory, path)
+}
+
 fn name_in(alloc: Global, table: &Table<'_>, file: u32) -> Result<Text, Memory>
     ensures { IfOk result (λ name. name ≡ unwrap_or (file_in table.now file) unknown_file) }
 {
     match table.file_names.get(file as usize) {
         Some(entry) => {
             let directory = directory_path(&table.directories, entry.directory_index);
-            joined_path(alloc, directory, entry.path)
+            joined_texts(alloc, directory, entry.path)
         }
         None => Text::of(alloc, b"<unknown file>"),
     }
@@ -171,7 +187,7 @@ fn run_header<'a>(
 fn read_table<'a>(
     alloc: Global,
     line: &'a [u8],
-    sections: &DebugParts<'a>,
+    texts: &Texts<'a>,
     offset: u32,
     collector: &mut Collector<'_, '_>,
 ) -> Result<Option<Table<'a>>, Fail<LineFault>>
@@ -179,11 +195,11 @@ fn read_table<'a>(
     ensures segments { IfOk result (λ _. collector.new.segments ≡ collector.old.segments) }
     ensures table { Gives (λ t. (option_to_list t, collector.new.sequences)) result
         (added_to [] collector.old.sequences
-        (line_table_of line.now (texts_of sections.now) collector.old.segments offset)) }
+        (line_table_of line.now texts.now collector.old.segments offset)) }
 {
     let fault = LineFault { offset };
     let mut reader = reader_at(line, offset as usize, fault)?;
-    match read_header(alloc, sections, &mut reader)? {
+    match read_header(alloc, texts, &mut reader)? {
         None => Ok(None),
         Some(header) => Ok(Some(run_header(header, offset, collector)?)),
     }
@@ -208,17 +224,17 @@ fn program_size(line: &[u8], offset: u32) -> Result<usize, LineFault> {
 fn read_tables<'a, 'o>(
     alloc: Global,
     line: &'a [u8],
-    sections: &DebugParts<'a>,
+    texts: &Texts<'a>,
     offsets: &'o [u32],
     collector: &mut Collector<'_, '_>,
 ) -> Result<(Vec<Table<'a>>, &'o [u32]), Fail<LineFault>>
     requires { length line.now < 2 ^ 32 }
     ensures read { IfOk result (λ read. added_to read.0.items collector.new.sequences
-        (line_tables_of line.now (texts_of sections.now) collector.old.segments read.1.now)
+        (line_tables_of line.now texts.now collector.old.segments read.1.now)
         ≡ added_to [] collector.old.sequences
-        (line_tables_of line.now (texts_of sections.now) collector.old.segments offsets.now)) }
+        (line_tables_of line.now texts.now collector.old.segments offsets.now)) }
     ensures fault { IfErr result (λ fail. FailsBy fail (added_to [] collector.old.sequences
-        (line_tables_of line.now (texts_of sections.now) collector.old.segments offsets.now))) }
+        (line_tables_of line.now texts.now collector.old.segments offsets.now))) }
 {
     let mut tables = Vec::new(alloc);
     let mut rest = offsets;
@@ -229,7 +245,7 @@ fn read_tables<'a, 'o>(
             return Ok((tables, rest));
         }
         room -= size;
-        let table = read_table(alloc, line, sections, *offset, collector)?;
+        let table = read_table(alloc, line, texts, *offset, collector)?;
         push_some(&mut tables, table)?;
         rest = others;
     }
@@ -241,17 +257,17 @@ fn read_tables<'a, 'o>(
 fn read_unkept_table<'a>(
     alloc: Global,
     line: &'a [u8],
-    sections: &DebugParts<'a>,
+    texts: &Texts<'a>,
     segments: &Segments,
     offset: u32,
 ) -> Result<Option<UnkeptTable<'a>>, Fail<LineFault>>
     requires { length line.now < 2 ^ 32 }
     ensures { Gives (λ t. map (unkept_read segments.now) (option_to_list t)) result
-        (line_table_of line.now (texts_of sections.now) segments.now offset) }
+        (line_table_of line.now texts.now segments.now offset) }
 {
     let fault = LineFault { offset };
     let mut reader = reader_at(line, offset as usize, fault)?;
-    match read_header(alloc, sections, &mut reader)? {
+    match read_header(alloc, texts, &mut reader)? {
         None => Ok(None),
         Some(header) => Ok(Some(UnkeptTable::of(header, offset, segments)?)),
     }
@@ -261,18 +277,18 @@ fn read_unkept_table<'a>(
 fn read_unkept<'a>(
     alloc: Global,
     line: &'a [u8],
-    sections: &DebugParts<'a>,
+    texts: &Texts<'a>,
     segments: &Segments,
     offsets: &[u32],
 ) -> Result<Vec<UnkeptTable<'a>>, Fail<LineFault>>
     requires { length line.now < 2 ^ 32 }
     ensures { Gives (λ v. map (unkept_read segments.now) v.items) result
-        (line_tables_of line.now (texts_of sections.now) segments.now offsets.now) }
+        (line_tables_of line.now texts.now segments.now offsets.now) }
 {
     let mut tables = Vec::new(alloc);
     let mut rest = offsets;
     while let Some((offset, others)) = rest.split_first() {
-        let table = read_unkept_table(alloc, line, sections, segments, *offset)?;
+        let table = read_unkept_table(alloc, line, texts, segments, *offset)?;
         push_some(&mut tables, table)?;
         rest = others;
     }
@@ -295,10 +311,11 @@ pub fn read_lines<'a>(
     ensures { Gives (λ lines. lines) result
         (lines_at line.now (texts_of sections.entry) image.now.segments offsets.now) }
 {
+    let texts = Texts::of(&sections);
     let mut collector = Collector::new(alloc, image);
-    let (tables, rest) = read_tables(alloc, line, &sections, offsets, &mut collector)?;
+    let (tables, rest) = read_tables(alloc, line, &texts, offsets, &mut collector)?;
     let segments = Segments::of(alloc, image)?;
-    let unkept = read_unkept(alloc, line, &sections, &segments, rest)?;
+    let unkept = read_unkept(alloc, line, &texts, &segments, rest)?;
     let sequences = RangeTable::of(alloc, collector.finish())?;
     let tables = RangeTable::of(alloc, tables)?;
     let unkept = UnkeptTables::of(alloc, unkept, segments)?;

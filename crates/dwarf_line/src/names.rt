@@ -1,17 +1,17 @@
 //! Directories and files of a line table (DWARF 5, section 6.2.4.1).
-ghost use Rattle.std.specs.Prelude.{◌≡◌, option_map, slice_get, unwrap_or};
-ghost use Rattle.std.specs.Option.{option_copied};
+ghost use Rattle.std.specs.Prelude.{◌≡◌, IfSome, option_map, slice_get, unwrap_or};
 ghost use Rattle.prof_bytes.specs.Outcome.{GivesAt, GivesFrom};
+ghost use Rattle.dwarf_forms.specs.Sections.{section_text, HasNoZero};
 ghost use Rattle.dwarf_forms.specs.Values.{form_value};
-ghost use Rattle.dwarf_line.specs.Names.{texts_of, repeated_from, format_from, path_by_value, index_by_value};
+ghost use Rattle.dwarf_line.specs.Names.{repeated_from, format_from, path_by_value, index_by_value};
 ghost use Rattle.dwarf_line.specs.Names.{name_entry_from, names_from};
 ghost use Rattle.dwarf_line.specs.private.NameEntries.{has_index};
 ghost use Rattle.dwarf_line.specs.private.ContentValues.{held_values, content_values_from, as_first, earlier_first};
 
 use crate::constants::{DW_LNCT_directory_index, DW_LNCT_path};
 use crate::fault::LineFault;
-use dwarf_forms::{Value, is_value_form, read_form, text_in};
-use elf_image::DebugParts;
+use crate::texts::Texts;
+use dwarf_forms::{SectionText, Value, is_value_form, read_form};
 use prof_bytes::{Fail, Reader};
 use std::alloc::Global;
 use std::marker::Model;
@@ -28,22 +28,23 @@ pub(crate) struct EntryFormat {
 /// A directory or a file: its path, and the index of the directory that the path is relative to.
 #[derive(Drop)]
 pub(crate) struct NamedPath<'a> {
-    pub(crate) path: &'a [u8],
+    pub(crate) path: SectionText<'a>,
     pub(crate) directory_index: Option<u64>,
 }
 
 impl<'a> Model for NamedPath<'a> {
+    ghost use Rattle.dwarf_forms.specs.Sections.{section_text};
     ghost use Rattle.dwarf_line.specs.Names.{NamedPath};
 
     ghost Value = { NamedPath };
 
-    ghost view = { λ entry. record { path = entry.path.now; directory_index = entry.directory_index } };
+    ghost view = { λ entry. record { path = section_text entry.path; directory_index = entry.directory_index } };
 }
 
 /// An entry of a list. The index is 0 where entries of the list have none.
 #[derive(Clone, Copy)]
 struct NameEntry<'a> {
-    path: &'a [u8],
+    path: SectionText<'a>,
     directory_index: u64,
 }
 
@@ -164,14 +165,15 @@ fn entry_values<'a>(
 }
 
 /// A path by its value; the empty one where there is no value, and `None` where it isn't a text.
-fn path_by_value<'a>(sections: &DebugParts<'a>, value: Option<Value<'a>>) -> Option<&'a [u8]>
-    ensures { option_copied result ≡ path_by_value (texts_of sections.now) (option_map form_value value.entry) }
+fn path_by_value<'a>(texts: &Texts<'a>, value: Option<Value<'a>>) -> Option<SectionText<'a>>
+    requires { IfSome (option_map form_value value) HasNoZero }
+    ensures { option_map section_text result ≡ path_by_value texts.now (option_map form_value value.entry) }
 {
     match value {
-        None => Some(EMPTY),
-        Some(Value::Name(text)) => Some(text),
-        Some(Value::StrAt(offset)) => text_in(sections.str_bytes, offset),
-        Some(Value::LineStrAt(offset)) => text_in(sections.line_str, offset),
+        None => Some(SectionText::whole(EMPTY)),
+        Some(Value::Name(text)) => Some(SectionText::whole(text)),
+        Some(Value::StrAt(offset)) => texts.str_bytes.text(offset),
+        Some(Value::LineStrAt(offset)) => texts.line_str.text(offset),
         Some(_) => None,
     }
 }
@@ -190,14 +192,14 @@ fn index_by_value(value: Option<Value<'_>>) -> Option<Option<u64>>
 /// An entry by its formats.
 #[tactic(auto, using(crate::proofs::ContentValues::entry_by_first))]
 fn read_entry<'a>(
-    sections: &DebugParts<'a>,
+    texts: &Texts<'a>,
     reader: &mut Reader<'a, LineFault>,
     formats: &[EntryFormat],
 ) -> Result<NamedPath<'a>, LineFault>
-    ensures { GivesAt (λ e. e) result reader.new (name_entry_from (texts_of sections.now) formats.now reader.old) }
+    ensures { GivesAt (λ e. e) result reader.new (name_entry_from texts.now formats.now reader.old) }
 {
     let values = entry_values(reader, formats)?;
-    let Some(path) = path_by_value(sections, values.path) else {
+    let Some(path) = path_by_value(texts, values.path) else {
         return Err(reader.missing());
     };
     let Some(directory_index) = index_by_value(values.directory_index) else {
@@ -211,7 +213,7 @@ fn read_entry<'a>(
 
 /// An entry as a list keeps it.
 fn kept_entry<'a>(entry: NamedPath<'a>) -> NameEntry<'a>
-    ensures path { result.path.now ≡ entry.entry.path }
+    ensures path { section_text result.path ≡ entry.entry.path }
     ensures index { result.directory_index ≡ unwrap_or entry.entry.directory_index 0 }
 {
     NameEntry {
@@ -231,18 +233,18 @@ fn has_index(formats: &[EntryFormat]) -> bool
 
 fn entries<'a>(
     alloc: Global,
-    sections: &DebugParts<'a>,
+    texts: &Texts<'a>,
     reader: &mut Reader<'a, LineFault>,
     formats: &[EntryFormat],
     count: u64,
 ) -> Result<NamedPaths<'a>, Fail<LineFault>>
     ensures { GivesFrom (λ v. v) result reader.new
-        (repeated_from (name_entry_from (texts_of sections.now) formats.now) count reader.old) }
+        (repeated_from (name_entry_from texts.now formats.now) count reader.old) }
 {
     let indexed = has_index(formats);
     let mut entries = Vec::new(alloc);
     for _ in 0..count {
-        let entry = read_entry(sections, reader, formats)?;
+        let entry = read_entry(texts, reader, formats)?;
         entries.push(kept_entry(entry))?;
     }
     Ok(NamedPaths { indexed, entries })
@@ -252,10 +254,10 @@ fn entries<'a>(
 #[tactic(auto, unfolding(crate::specs::Names::names_from))]
 pub(crate) fn read_names<'a>(
     alloc: Global,
-    sections: &DebugParts<'a>,
+    texts: &Texts<'a>,
     reader: &mut Reader<'a, LineFault>,
 ) -> Result<NamedPaths<'a>, Fail<LineFault>>
-    ensures { GivesFrom (λ v. v) result reader.new (names_from (texts_of sections.now) reader.old) }
+    ensures { GivesFrom (λ v. v) result reader.new (names_from texts.now reader.old) }
 {
     let format_count = reader.u8()?;
     let formats = formats(alloc, reader, format_count)?;
@@ -263,5 +265,5 @@ pub(crate) fn read_names<'a>(
     if count > reader.left() as u64 {
         return Err(Fail::Fault(reader.missing()));
     }
-    entries(alloc, sections, reader, formats.as_slice(), count)
+    entries(alloc, texts, reader, formats.as_slice(), count)
 }

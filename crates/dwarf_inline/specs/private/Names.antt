@@ -2,6 +2,7 @@
 use Rattle.std.specs.Prelude.{ℕ, ◌==◌, List, find, option_map, option_to_list, take, Option}
 use Rattle.std.specs.Option.{option_map_or}
 use Rattle.scope_types.specs.Limits.{most_name_bytes}
+use Rattle.dwarf_forms.specs.Sections.{section_text}
 use Rattle.dwarf_info.specs.Units.{DebugInfo}
 use Rattle.dwarf_info.specs.Queries.{name_of}
 use Rattle.dwarf_info.specs.Subroutines.{Indexed}
@@ -12,9 +13,9 @@ use Rattle.dwarf_inline.specs.declared.identities.ProcName.{ProcName}
 abbrev pub Pair : Type 0
 Pair = ℕ × List ℕ
 
--- as it is kept
+-- as it is kept; the name is cut where it is asked for
 abbrev pub pair_of : ProcName → Pair
-pair_of n = (n.identity, n.name.now)
+pair_of n = (n.identity, take most_name_bytes (section_text n.name))
 
 -- an identity with the name of the entry with an index, cut, if it has one
 abbrev pub named : DebugInfo → ℕ → ℕ → Option Pair

@@ -8,6 +8,8 @@ use Rattle.dwarf_info.proofs.info.read_info.Goals as goal
 
 pub invariant_of-result : goal.invariant_of-result
 invariant_of-result c = record {
+  strings = c.of.ensures;
+  line_strings = c.of-2.ensures;
   shown = c.in_ok-units.ensures ∙ ap (map unit_of) c.as_slice.ensures.value;
   are = c.in_ok-contexts.ensures.are;
   indexed = subst (λ (os : List ℕ). AreIndexed (sections_of c.args.sections) c.in_ok-contexts.contexts.items os c.read_units.new.firsts.items) (sym c.in_ok-offsets.ensures) c.in_ok-contexts.ensures.indexed;

@@ -1,4 +1,4 @@
-use Rattle.std.proofs.Common.{rules, ◌≡◌, ◌∙◌, ◌<◌, ltb, Some, Option, length, sym, ap, arith}
+use Rattle.std.proofs.Common.{rules, ◌≡◌, ◌∙◌, ◌<◌, ℕ, List, ltb, Some, Option, length, sym, ap, arith}
 use Rattle.std.specs.Prelude.{option_map, slice_get}
 use Rattle.std.proofs.lemmas.List.Sorted.{IsPartitionPoint-from_clause, IsPartitionedBy-ltb}
 use Rattle.std.proofs.lemmas.Bool.{ltb-true, ltb-false}
@@ -8,6 +8,9 @@ use Rattle.dwarf_inline.specs.private.Names.{Pair}
 use Rattle.dwarf_inline.proofs.NameLists.{name_found, name_missing}
 use Rattle.dwarf_inline.proofs.identities.name_in.Goals as goal
 use Rattle.dwarf_inline.proofs.identities.name_in.Goals.{in_default-via-in-Some+else-name-identity, in_default-via-in_default}
+
+abbrev some_text : List ℕ → Option (List ℕ)
+some_text text = Some text
 
 abbrev some_name : ProcName → Option ProcName
 some_name n = Some n
@@ -20,7 +23,8 @@ returns-in-Some c =
     let lt : c.partition_point-index.result < length c.args.names.now = ltb-true _ _ (sym c.in-Some.ensures.lookup.0) in
     let there : slice_get c.args.names.now c.partition_point-index.result ≡ Some c.in-Some.name.now =
     slice_get-get_or c.args.names.now c.partition_point-index.result c.in-Some.name.now lt ∙ ap some_name (sym c.in-Some.ensures.lookup.1) in
-    sym (ap (λ (o : Option Pair). option_map (λ p. p.1) o)
+    ap some_text c.cut.ensures
+    ∙ sym (ap (λ (o : Option Pair). option_map (λ p. p.1) o)
     (name_found c.args.names.now c.args.identity c.partition_point-index.result c.in-Some.name.now c.partition_point-index.ensures.bound point there c.if-name-identity.true))
 
 pub returns-in_default : goal.returns-in_default
