@@ -2,6 +2,7 @@
 use Rattle.std.proofs.Common.{◌≡◌, ℕ, ℤ, ◌+◌, ◌-◌, ◌^◌, ◌≤◌, ◌<◌, ◌==◌, Bool, true, false, inl, inr, List, [], ◌∷◌, length, take, Option, Some, None, Ok, Err, refl, sym, ap, ◌∙◌, arith}
 use Rattle.std.specs.Prelude.{option_map, option_and_then, if◌then◌else◌, nat_lt}
 use Rattle.std.proofs.lemmas.Bool.{cases_lt, lt-ltb, le-ltb, eqb-true}
+use Rattle.std.proofs.lemmas.Option.{same_Some}
 use Rattle.prof_bytes.specs.Fields.{Input, taken, number_from, bytes_from}
 use Rattle.prof_bytes.specs.Reading.{At, left_of, moved}
 use Rattle.dwarf_forms.specs.declared.constants.TheConstants.{DW_FORM_indirect}
@@ -133,3 +134,27 @@ pub whole_sum : (total : ℕ) (specs rest : List Spec) → total < 2 ^ 32 → le
 whole_sum total specs [] lt none is =
     sym (ap in_32_bits (is ∙ ap Some (let e : total + 0 ≡ total = omega arith in e)) ∙ rw (lt-ltb total (2 ^ 32) lt) refl)
 whole_sum total specs (spec ∷ rest) lt none is = absurd (omega arith)
+
+-- ---- sizes of lists
+
+-- a size of a list is that of its first form and that of the others
+pub record Parts (first others : Option ℕ) (count : ℕ) : Type 0 where
+  pub front : ℕ
+  pub back : ℕ
+  pub front_is : first ≡ Some front
+  pub back_is : others ≡ Some back
+  pub sum : front + back ≡ count
+
+pub parts : (first others : Option ℕ) (count : ℕ) → option_and_then (λ a. option_map (λ b. a + b) others) first ≡ Some count → Parts first others count
+parts None others count e = absurd cc
+parts (Some a) None count e = absurd cc
+parts (Some a) (Some b) count e = record { front = a; back = b; front_is = refl; back_is = refl; sum = same_Some (a + b) count e }
+
+-- what has 32 bits is the size
+pub is_size : (size : Option ℕ) (count : ℕ) → Some count ≡ in_32_bits size → size ≡ Some count
+is_size None count e = absurd cc
+is_size (Some n) count e =
+    elim (cases_lt n (2 ^ 32)) [
+      | inl lt ↦ sym (e ∙ rw (lt-ltb n (2 ^ 32) lt) refl)
+      | inr ge ↦ absurd (let none : Some count ≡ None = e ∙ rw (le-ltb n (2 ^ 32) ge) refl in cc)
+    ]

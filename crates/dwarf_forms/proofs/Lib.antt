@@ -10,3 +10,5 @@ pub mod Rooms
 pub mod FixedSizes
 pub mod Suffixes
 pub mod OneDeclaration
+pub mod FixedFronts
+pub mod FirstAttributes

@@ -1,12 +1,13 @@
 -- The number of bytes of values whose forms fix it. DWARF 5, sections 7.5.5 and 7.5.6.
-use Rattle.std.specs.Prelude.{ℕ, ◌+◌, ◌^◌, List, [], ◌∷◌, Option, Some, None, option_map, option_and_then, Result, Ok}
-use Rattle.std.specs.Prelude.{Err, if◌then◌else◌, nat_lt}
+use Rattle.std.specs.Prelude.{◌≡◌, ℕ, ◌+◌, ◌^◌, ◌≤◌, List, [], ◌∷◌, length, take, Option, Some, None, option_map}
+use Rattle.std.specs.Prelude.{option_and_then, Result, Ok, Err, if◌then◌else◌, nat_lt}
 use Rattle.prof_bytes.specs.Fields.{Input}
 use Rattle.dwarf_forms.specs.declared.encoding.Size.{Size}
 use Rattle.dwarf_forms.specs.declared.encoding.Size.TheVariants.{One, Two, Three, Four, Eight, Uleb}
 use Rattle.dwarf_forms.specs.declared.encoding.Encoding.{Encoding}
 use Rattle.dwarf_forms.specs.declared.encoding.Encoding.TheVariants as encodings
 use Rattle.dwarf_forms.specs.declared.declaration.Spec.{Spec}
+use Rattle.dwarf_forms.specs.declared.fronts.FixedFront.{FixedFront}
 use Rattle.dwarf_forms.specs.Forms.{encoding_of}
 
 -- the number of bytes of a number; a LEB128 number has no fixed one
@@ -38,6 +39,11 @@ abbrev pub fixed_size : List Spec → Option ℕ
 fixed_size [] = Some 0
 fixed_size (spec ∷ specs) =
     option_and_then (λ first. option_map (λ others. first + others) (fixed_size specs)) (form_size spec.form)
+
+-- so many of the first of these attributes have values of so many bytes together, which their forms fix
+pub record IsFixedFront (specs : List Spec) (front : FixedFront) : Type 0 where
+  pub within : front.count ≤ length specs
+  pub sized : fixed_size (take front.count specs) ≡ Some front.bytes
 
 -- a number of bytes, where it has 32 bits
 abbrev pub in_32_bits : Option ℕ → Option ℕ

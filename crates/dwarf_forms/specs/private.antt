@@ -1,3 +1,4 @@
 pub mod Indices
 pub mod Passed
 pub mod Texts
+pub mod SpecParts

@@ -1,14 +1,17 @@
 //! Declarations of entries, and tables of them.
-ghost use Rattle.std.specs.Prelude.{◌≡◌, ◌≤◌, ◌<◌, ◌==◌, ℕ, List, drop, find, position, length, option_copied};
+ghost use Rattle.std.specs.Prelude.{◌≡◌, ◌≤◌, ◌<◌, ◌==◌, ℕ, List, drop, find, position, length, option_copied, take};
 ghost use Rattle.std.specs.Prelude.{option_map};
-ghost use Rattle.std.specs.Prelude.{slice_get, IfSome, Some, Ok};
+ghost use Rattle.std.specs.Prelude.{slice_get, IfOk, IfSome, Some, Ok};
 ghost use Rattle.prof_bytes.specs.declared.fail.Fail.TheVariants as fails;
 ghost use Rattle.dwarf_forms.specs.Abbreviations.{table_at};
-ghost use Rattle.dwarf_forms.specs.Sizes.{fixed_size, in_32_bits};
+ghost use Rattle.dwarf_forms.specs.Sizes.{fixed_size, in_32_bits, IsFixedFront};
 ghost use Rattle.dwarf_forms.specs.private.Indices.{AreKept};
 
+use crate::first_attributes::{first_index, firsts_of};
+use crate::fronts::{FixedFront, front_between, fronts_of};
 use crate::sizes::fixed_size;
-use prof_bytes::Fail;
+use prof_bytes::{Fail, Memory};
+use std::alloc::Global;
 use std::collections::BTreeMap;
 use std::marker::Model;
 
@@ -36,33 +39,48 @@ pub struct Spec {
     pub implicit: i64,
 }
 
-/// The attributes of a declaration, in order. Contracts see them as a list.
+/// The attributes of a declaration, in order. Contracts see them as a list. Two attributes or more take eight bytes for
+/// each beside them, and more than 32 take four for each code of the standard.
 #[derive(Debug, Drop)]
 pub struct Specs {
     items: Vec<Spec>,
     /// The number of bytes of their values, where their forms fix it.
     size: Option<u32>,
+    /// How far the forms of the last attributes fix the sizes of their values, for each number of attributes from 0 on.
+    fronts: Vec<FixedFront>,
+    /// For each code from 0 on, one more than the index of the first attribute with it; empty, where the attributes are
+    /// few.
+    firsts: Vec<u32>,
 }
 
 impl Model for Specs {
-    ghost use Rattle.std.specs.Prelude.{◌≡◌, List};
+    ghost use Rattle.std.specs.Prelude.{List};
     ghost use Rattle.dwarf_forms.specs.declared.declaration.Spec.{Spec};
-    ghost use Rattle.dwarf_forms.specs.Sizes.{fixed_size, in_32_bits};
+    ghost use Rattle.dwarf_forms.specs.private.SpecParts.{AreSpecParts};
 
     ghost Value = { List Spec };
 
     ghost view = { λ specs. specs.items.items };
 
-    ghost invariant = { λ specs. specs.size ≡ in_32_bits (fixed_size specs.items.items) };
+    ghost invariant = { λ specs. AreSpecParts specs.items.items specs.size specs.fronts.items specs.firsts.items };
 }
 
 impl Specs {
-    /// These attributes. Takes no memory.
-    pub fn from_vec(items: Vec<Spec>) -> Specs
-        ensures { result ≡ items.items }
+    /// These attributes.
+    pub fn from_vec(alloc: Global, items: Vec<Spec>) -> Result<Specs, Memory>
+        ensures { IfOk result (λ specs. specs ≡ items.items) }
     {
+        let mut items = items;
+        items.shrink_to_fit();
         let size = fixed_size(items.as_slice());
-        Specs { items, size }
+        let fronts = fronts_of(alloc, items.as_slice())?;
+        let firsts = firsts_of(alloc, items.as_slice())?;
+        Ok(Specs {
+            items,
+            size,
+            fronts,
+            firsts,
+        })
     }
 
     /// The number of bytes of the values of an entry with these attributes, where it is the same for all such entries.
@@ -71,6 +89,26 @@ impl Specs {
         ensures { result ≡ in_32_bits (fixed_size self.now) }
     {
         self.size
+    }
+
+    /// Of the attributes from index `from` up to index `to`, the first whose forms fix the sizes of their values: how many,
+    /// and the number of bytes of these. Takes a few steps. All of them up to the first other form, where there are
+    /// fewer than 2^32 with fewer bytes; no clause says so, and each can be read by itself.
+    pub fn fixed_front(&self, from: usize, to: usize) -> FixedFront
+        requires from { from ≤ to }
+        requires to { to ≤ length self.now }
+        ensures { IsFixedFront (drop from (take to self.now)) result }
+    {
+        front_between(self.fronts.as_slice(), self.items.len(), from, to)
+    }
+
+    /// The index of the first attribute with a code. Takes one step for a code of the standard where there are more than
+    /// 32 attributes, and else at most as many steps as there are attributes.
+    pub fn index_of(&self, code: u64) -> Option<usize>
+        ensures first { result ≡ position (λ spec. spec.attribute == code) self.now }
+        ensures within { IfSome result (λ index. index < length self.now) }
+    {
+        first_index(self.items.as_slice(), self.firsts.as_slice(), code)
     }
 
     /// The attributes.

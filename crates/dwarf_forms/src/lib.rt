@@ -8,6 +8,8 @@
 pub mod constants;
 mod declaration;
 mod encoding;
+mod first_attributes;
+mod fronts;
 mod laws;
 mod lookup;
 mod read;
@@ -20,6 +22,7 @@ mod words;
 
 pub use declaration::{Abbrev, Abbrevs, BadTable, Declarations, Spec, Specs};
 pub use encoding::is_value_form;
+pub use fronts::FixedFront;
 pub use laws::declaration_count_is_at_most_bytes;
 pub use lookup::{code_at, first_declaration, specs_at};
 pub use read::{read_form, read_value};

@@ -55,7 +55,7 @@ fn attributes(alloc: Global, reader: &mut Reader<'_, BadTable>) -> Result<Specs,
     let room = reader.left();
     for _ in 0..room {
         match attribute(reader)? {
-            None => return Ok(Specs::from_vec(items)),
+            None => return Ok(Specs::from_vec(alloc, items)?),
             Some(spec) => items.push(spec)?,
         }
     }

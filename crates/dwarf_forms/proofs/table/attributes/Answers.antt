@@ -12,7 +12,7 @@ returns-in_err-attribute c =
 
 pub returns-in-None : goal.returns-in-None
 returns-in-None c =
-    rw (← c.left-room.ensures, c.from_vec.ensures) (closes attribute_from c.loop.items.items c.left-room.result c.loop.counter c.loop.reader c.attribute.new.reader
+    rw (← c.left-room.ensures, c.in_ok-from_vec-in-None.ensures) (closes attribute_from c.loop.items.items c.left-room.result c.loop.counter c.loop.reader c.attribute.new.reader
     (list_from attribute_from c.left-room.result c.args.reader.now) c.loop-test.true (rw c.in-None.is at c.in_ok-attribute.ensures) c.loop.invariant)
 
 pub loop-preserved : goal.loop-preserved
