@@ -1,29 +1,15 @@
 -- Values whose forms say their size are passed in one step.
-use Rattle.std.proofs.Common.{◌≡◌, ℕ, ◌+◌, ◌^◌, inl, inr, List, [], ◌∷◌, length, Option, Some, None, Result, Ok, Err, refl, sym, ap, ◌∙◌, arith}
-use Rattle.std.specs.Prelude.{option_map, option_and_then}
-use Rattle.std.proofs.lemmas.Bool.{cases_lt, lt-ltb, le-ltb}
+use Rattle.std.proofs.Common.{◌≡◌, ℕ, ◌+◌, inl, inr, List, [], ◌∷◌, length, Some, Result, Ok, Err, refl, sym, ap, ◌∙◌, arith}
+use Rattle.std.proofs.lemmas.Bool.{cases_lt}
 use Rattle.std.proofs.lemmas.Option.{same_Some}
 use Rattle.prof_bytes.specs.Fields.{Input, bytes_from}
 use Rattle.prof_bytes.specs.Outcome.{◌>>=◌}
 use Rattle.prof_bytes.specs.Reading.{left_of, moved}
 use Rattle.dwarf_forms.specs.declared.declaration.Spec.{Spec}
 use Rattle.dwarf_forms.specs.Values.{FormValue, value_from}
-use Rattle.dwarf_forms.specs.Sizes.{form_size, fixed_size, in_32_bits, passed_by}
-use Rattle.dwarf_forms.proofs.FixedSizes.{few_left, some_left, none_passed, passed_twice, value_passed}
+use Rattle.dwarf_forms.specs.Sizes.{form_size, fixed_size, passed_by}
+use Rattle.dwarf_forms.proofs.FixedSizes.{Parts, parts, few_left, some_left, none_passed, passed_twice, value_passed}
 use Rattle.dwarf_info.specs.Values.{passed_from}
-
--- a size of a list is that of its first form and that of the others
-record Parts (first others : Option ℕ) (count : ℕ) : Type 0 where
-  front : ℕ
-  back : ℕ
-  front_is : first ≡ Some front
-  back_is : others ≡ Some back
-  sum : front + back ≡ count
-
-parts : (first others : Option ℕ) (count : ℕ) → option_and_then (λ a. option_map (λ b. a + b) others) first ≡ Some count → Parts first others count
-parts None others count e = absurd cc
-parts (Some a) None count e = absurd cc
-parts (Some a) (Some b) count e = record { front = a; back = b; front_is = refl; back_is = refl; sum = same_Some (a + b) count e }
 
 then_passed : {F : Type 0} (unknown : F) (specs : List Spec) (read : Result (FormValue × Input F) F)
     → (read >>= (λ r. passed_from unknown specs r.1)) ≡ (passed_by read >>= (λ r. passed_from unknown specs r.1))
@@ -52,12 +38,3 @@ passed_fixed {F = F} unknown (spec ∷ specs) count input is =
     then_passed unknown specs (value_from unknown spec.form spec.implicit input)
     ∙ ap next (value_passed unknown spec.form spec.implicit p.front input p.front_is)
     ∙ then_others unknown specs p.front p.back count input p.sum (λ after. passed_fixed unknown specs p.back after p.back_is)
-
--- what has 32 bits is the size
-pub is_size : (size : Option ℕ) (count : ℕ) → Some count ≡ in_32_bits size → size ≡ Some count
-is_size None count e = absurd cc
-is_size (Some n) count e =
-    elim (cases_lt n (2 ^ 32)) [
-      | inl lt ↦ sym (e ∙ rw (lt-ltb n (2 ^ 32) lt) refl)
-      | inr ge ↦ absurd (let none : Some count ≡ None = e ∙ rw (le-ltb n (2 ^ 32) ge) refl in cc)
-    ]

@@ -16,3 +16,4 @@ pub mod Outlining
 pub mod CodeLists
 pub mod LocatedEntries
 pub mod WholeNames
+pub mod PassedBefore

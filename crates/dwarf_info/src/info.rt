@@ -160,7 +160,7 @@ impl<'a> Info<'a> {
         let context = at.context;
         match at.declared {
             Some(declared) => {
-                let specs = declared.by.specs.as_slice();
+                let specs = &declared.by.specs;
                 let end = context.header.end;
                 value_after(self.sections.info, end, declared.first, specs, attribute)
             }

@@ -1,5 +1,5 @@
 //! The values of one entry (DWARF 5, section 7.5.3).
-ghost use Rattle.std.specs.Prelude.{◌≡◌, ◌==◌, ◌≤◌, IfOk, find, length, option_copied, option_map, take, List, Ok};
+ghost use Rattle.std.specs.Prelude.{◌≡◌, ◌==◌, ◌≤◌, ◌<◌, ℕ, IfOk, length, option_map, position, take, List, Ok, Some};
 ghost use Rattle.prof_bytes.specs.Outcome.{GivesAt};
 ghost use Rattle.prof_bytes.specs.Fields.{bytes_from, Input};
 ghost use Rattle.dwarf_forms.specs.declared.declaration.BadTable.{BadTable};
@@ -30,34 +30,41 @@ fn one_value<'a, F: Copy>(
 }
 
 /// Skips `count` bytes.
-fn pass_bytes(reader: &mut Reader<'_, InfoFault>, count: u32) -> Result<(), InfoFault>
+#[inline(always)]
+fn pass_bytes<F: Copy>(reader: &mut Reader<'_, F>, count: u32) -> Result<(), F>
     ensures { GivesAt (λ u. u) result reader.new (passed_by (bytes_from count reader.old)) }
 {
     reader.take(count as usize)?;
     Ok(())
 }
 
-/// Skips the values of these attributes one after the other.
-fn pass_each(
-    reader: &mut Reader<'_, InfoFault>,
-    specs: &[Spec],
-    unknown: InfoFault,
-) -> Result<(), InfoFault>
-    ensures passed { GivesAt (λ u. u) result reader.new (passed_from unknown specs.now reader.old) }
-    ensures keeps { IfOk result (λ _. reader.new.at.whole ≡ reader.old.at.whole) }
+/// Skips the values of the attributes before an index: in one step those that follow one another whose forms fix their
+/// sizes, and each other value by itself. So it takes at most two steps for each byte that it skips, and two more.
+fn pass_before<F: Copy>(
+    reader: &mut Reader<'_, F>,
+    specs: &Specs,
+    index: usize,
+    unknown: F,
+) -> Result<(), F>
+    requires { index ≤ length specs.now }
+    ensures { GivesAt (λ u. u) result reader.new (passed_from unknown (take index specs.now) reader.old) }
 {
-    let mut rest = specs;
-    while let Some((spec, others)) = rest.split_first() {
-        match one_value(reader, spec, unknown) {
-            Ok(_) => rest = others,
-            Err(fault) => return Err(fault),
+    let mut at = 0;
+    while at < index {
+        let front = specs.fixed_front(at, index);
+        pass_bytes(reader, front.bytes)?;
+        at += front.count as usize;
+        if at == index {
+            return Ok(());
         }
+        one_value(reader, &specs.as_slice()[at], unknown)?;
+        at += 1;
     }
     Ok(())
 }
 
-/// Skips the values of these attributes, in one step where their forms fix their number of bytes; `unknown` is the
-/// fault of an unknown form.
+/// Skips the values of these attributes, in one step where their forms fix their number of bytes, and else as
+/// `pass_before` does; `unknown` is the fault of an unknown form.
 #[inline(always)]
 pub(crate) fn pass_values(
     reader: &mut Reader<'_, InfoFault>,
@@ -69,35 +76,25 @@ pub(crate) fn pass_values(
 {
     match specs.size() {
         Some(size) => pass_bytes(reader, size),
-        None => pass_each(reader, specs.as_slice(), unknown),
+        None => pass_before(reader, specs, specs.as_slice().len(), unknown),
     }
 }
 
-/// The first of these attributes that has a code.
-fn spec_of(specs: &[Spec], attribute: u64) -> Option<&Spec>
-    ensures { option_copied result ≡ find (λ spec. spec.attribute == attribute) specs.now }
-{
-    specs.iter().find(|spec| spec.attribute == attribute)
-}
-
-/// The first value of an attribute among those of a declaration.
+/// The value with an index among those of a declaration, of which the first is here.
 #[inline(always)]
-fn value_by<'a>(
+fn value_with<'a>(
     reader: &mut Reader<'a, FormFault>,
-    specs: &[Spec],
-    attribute: u64,
+    specs: &Specs,
+    index: usize,
 ) -> Option<Value<'a>>
-    ensures { option_map form_value result ≡ value_of attribute (values_from specs.now reader.old) }
+    requires { index < length specs.now }
+    ensures { (attribute : ℕ) → position (λ spec. spec.attribute == attribute) specs.now ≡ Some index
+        → option_map form_value result ≡ value_of attribute (values_from specs.now reader.old) }
 {
-    let mut rest = specs;
-    while let Some((spec, others)) = rest.split_first() {
-        match one_value(reader, spec, FormFault::Unknown) {
-            Ok(value) if spec.attribute == attribute => return Some(value),
-            Ok(_) => rest = others,
-            Err(_) => return None,
-        }
+    match pass_before(reader, specs, index, FormFault::Unknown) {
+        Ok(()) => one_value(reader, &specs.as_slice()[index], FormFault::Unknown).ok(),
+        Err(_) => None,
     }
-    None
 }
 
 /// The first value of an attribute among those of a declaration; where the declaration lacks the attribute, no value is
@@ -106,49 +103,47 @@ fn value_by<'a>(
 #[inline(always)]
 fn declared_value<'a>(
     reader: &mut Reader<'a, FormFault>,
-    specs: &[Spec],
+    specs: &Specs,
     attribute: u64,
 ) -> Option<Value<'a>>
     ensures { option_map form_value result ≡ value_of attribute (values_from specs.now reader.old) }
 {
-    match spec_of(specs, attribute) {
-        Some(_) => value_by(reader, specs, attribute),
+    match specs.index_of(attribute) {
+        Some(index) => value_with(reader, specs, index),
         None => None,
     }
 }
 
-/// The first value of an attribute among those of a declaration, of which the first is at an offset.
+/// The value with an index among those of a declaration, of which the first is at an offset.
 #[inline(never)]
-fn value_among<'a>(
-    bytes: &'a [u8],
-    first: usize,
-    specs: &[Spec],
-    attribute: u64,
-) -> Option<Value<'a>>
-    requires { first ≤ length bytes.now }
-    ensures { option_map form_value result ≡ value_of attribute
+fn value_among<'a>(bytes: &'a [u8], first: usize, specs: &Specs, index: usize) -> Option<Value<'a>>
+    requires first { first ≤ length bytes.now }
+    requires index { index < length specs.now }
+    ensures { (attribute : ℕ) → position (λ spec. spec.attribute == attribute) specs.now ≡ Some index
+        → option_map form_value result ≡ value_of attribute
         (values_from specs.now (record { at = record { whole = bytes.now; offset = first }; missing = Short })) }
 {
     let mut reader = Reader::new(bytes, first, FormFault::Short);
-    value_by(&mut reader, specs, attribute)
+    value_with(&mut reader, specs, index)
 }
 
-/// The same in a unit that ends at `end`; where the declaration lacks the attribute, no value is read.
+/// The first value of an attribute among those of a declaration, of which the first is at an offset of a unit that ends
+/// at `end`; where the declaration lacks the attribute, no value is read.
 #[tactic(auto, using(crate::proofs::OneValue::not_declared))]
 #[inline(always)]
 pub(crate) fn value_after<'a>(
     info: &'a [u8],
     end: u32,
     first: usize,
-    specs: &[Spec],
+    specs: &Specs,
     attribute: u64,
 ) -> Option<Value<'a>>
     requires { first ≤ length (take end info.now) }
     ensures { option_map form_value result ≡ value_of attribute
         (values_from specs.now (section_up_to end info.now first Short)) }
 {
-    match spec_of(specs, attribute) {
-        Some(_) => value_among(bytes_before(info, end), first, specs, attribute),
+    match specs.index_of(attribute) {
+        Some(index) => value_among(bytes_before(info, end), first, specs, index),
         None => None,
     }
 }
@@ -191,7 +186,7 @@ pub(crate) fn entry_value<'a>(
         return None;
     };
     match table.find(code) {
-        Some(declared) => declared_value(reader, declared.specs.as_slice(), attribute),
+        Some(declared) => declared_value(reader, &declared.specs, attribute),
         None => None,
     }
 }
