@@ -87,6 +87,9 @@ pub const DW_FORM_addrx3: u64 = 0x2b;
 
 pub const DW_FORM_addrx4: u64 = 0x2c;
 
+/// At most so many attributes of a declaration are looked at one by one: nothing is kept of them beside them.
+pub const FEW_ATTRIBUTES: usize = 32;
+
 /// No entries are below one of this declaration (DWARF 5, section 7.5.3).
 pub const DW_CHILDREN_no: u8 = 0x00;
 /// Entries are below one of this declaration.

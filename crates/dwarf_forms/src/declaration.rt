@@ -39,8 +39,8 @@ pub struct Spec {
     pub implicit: i64,
 }
 
-/// The attributes of a declaration, in order. Contracts see them as a list. Two attributes or more take eight bytes for
-/// each beside them, and more than 32 take four for each code of the standard.
+/// The attributes of a declaration, in order. Contracts see them as a list. More than 32 attributes take eight bytes
+/// for each beside them, and four for each code of the standard.
 #[derive(Debug, Drop)]
 pub struct Specs {
     items: Vec<Spec>,
@@ -70,8 +70,6 @@ impl Specs {
     pub fn from_vec(alloc: Global, items: Vec<Spec>) -> Result<Specs, Memory>
         ensures { IfOk result (λ specs. specs ≡ items.items) }
     {
-        let mut items = items;
-        items.shrink_to_fit();
         let size = fixed_size(items.as_slice());
         let fronts = fronts_of(alloc, items.as_slice())?;
         let firsts = firsts_of(alloc, items.as_slice())?;

@@ -3,15 +3,13 @@ ghost use Rattle.std.specs.Prelude.{◌≡◌, ◌==◌, ◌<◌, ◌+◌, ◌^�
 ghost use Rattle.std.specs.Prelude.{if◌then◌else◌};
 ghost use Rattle.dwarf_forms.specs.private.SpecParts.{AreFirsts};
 
+use crate::constants::FEW_ATTRIBUTES;
 use crate::declaration::Spec;
 use prof_bytes::Memory;
 use std::alloc::Global;
 
 /// The codes of all attributes of DWARF 5 are below this (section 7.5.4).
 const ATTRIBUTE_CODES: usize = 0x8d;
-
-/// At most so many attributes are looked at one by one.
-const FEW_ATTRIBUTES: usize = 32;
 
 /// The index of the first attribute with a code, by looking at one after the other.
 fn first_among(specs: &[Spec], code: u64) -> Option<usize>

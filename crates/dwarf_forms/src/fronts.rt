@@ -4,6 +4,7 @@ ghost use Rattle.dwarf_forms.specs.declared.declaration.Spec.{Spec};
 ghost use Rattle.dwarf_forms.specs.Sizes.{IsFixedFront};
 ghost use Rattle.dwarf_forms.specs.private.SpecParts.{AreFixedFronts};
 
+use crate::constants::FEW_ATTRIBUTES;
 use crate::declaration::Spec;
 use crate::sizes::with_form;
 use prof_bytes::Memory;
@@ -37,11 +38,11 @@ fn with_first(others: FixedFront, form: u64) -> FixedFront
     }
 }
 
-/// The front of the last attributes, for each number of them from 0 on; none for a single attribute.
+/// The front of the last attributes, for each number of them from 0 on; none where they are few.
 pub(crate) fn fronts_of(alloc: Global, specs: &[Spec]) -> Result<Vec<FixedFront>, Memory>
     ensures { IfOk result (λ fronts. AreFixedFronts specs.now fronts.items) }
 {
-    if specs.len() < 2 {
+    if specs.len() <= FEW_ATTRIBUTES {
         return Ok(Vec::new(alloc));
     }
     // room: `specs.len() + 1`, a front for each number of attributes
