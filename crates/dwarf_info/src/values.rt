@@ -13,6 +13,7 @@ ghost use Rattle.dwarf_info.specs.Values.{passed_from, values_from, value_of, en
 
 use crate::attributes::bytes_before;
 use crate::fault::InfoFault;
+use dwarf_forms::constants::FEW_ATTRIBUTES;
 use dwarf_forms::{BadTable, Declarations, FormFault, Spec, Specs, Value, read_form};
 use prof_bytes::Reader;
 
@@ -38,9 +39,23 @@ fn pass_bytes<F: Copy>(reader: &mut Reader<'_, F>, count: u32) -> Result<(), F>
     Ok(())
 }
 
-/// Skips the values of the attributes before an index: in one step those that follow one another whose forms fix their
-/// sizes, and each other value by itself. So it takes at most two steps for each byte that it skips, and two more.
-fn pass_before<F: Copy>(
+/// Skips the values of these attributes one after the other.
+fn pass_each<F: Copy>(reader: &mut Reader<'_, F>, specs: &[Spec], unknown: F) -> Result<(), F>
+    ensures { GivesAt (λ u. u) result reader.new (passed_from unknown specs.now reader.old) }
+{
+    let mut rest = specs;
+    while let Some((spec, others)) = rest.split_first() {
+        match one_value(reader, spec, unknown) {
+            Ok(_) => rest = others,
+            Err(fault) => return Err(fault),
+        }
+    }
+    Ok(())
+}
+
+/// Skips the values of the first attributes, of more than a few: in one step those that follow one another whose forms fix
+/// their sizes, and each other value by itself. So it takes at most two steps for each byte that it skips, and two more.
+fn pass_fronts<F: Copy>(
     reader: &mut Reader<'_, F>,
     specs: &Specs,
     index: usize,
@@ -61,6 +76,24 @@ fn pass_before<F: Copy>(
         at += 1;
     }
     Ok(())
+}
+
+/// Skips the values of the attributes before an index.
+#[inline(always)]
+fn pass_before<F: Copy>(
+    reader: &mut Reader<'_, F>,
+    specs: &Specs,
+    index: usize,
+    unknown: F,
+) -> Result<(), F>
+    requires { index ≤ length specs.now }
+    ensures { GivesAt (λ u. u) result reader.new (passed_from unknown (take index specs.now) reader.old) }
+{
+    let items = specs.as_slice();
+    if items.len() <= FEW_ATTRIBUTES {
+        return pass_each(reader, &items[..index], unknown);
+    }
+    pass_fronts(reader, specs, index, unknown)
 }
 
 /// Skips the values of these attributes, in one step where their forms fix their number of bytes, and else as

@@ -2,7 +2,7 @@ use Rattle.std.proofs.Common.{rules, ◌≡◌, Err, refl, pos, take, arith}
 use Rattle.dwarf_forms.specs.Values.{form_value}
 use Rattle.dwarf_info.specs.Values.{passed_from}
 use Rattle.dwarf_info.proofs.PassedBefore.{front_end, bad_front, all_passed, front_last, one_step, bad_value}
-use Rattle.dwarf_info.proofs.values.pass_before.Goals as goal
+use Rattle.dwarf_info.proofs.values.pass_fronts.Goals as goal
 
 pub loop-at-init : goal.loop-at-init
 loop-at-init g c = record { within = omega arith; left = refl }

@@ -1,7 +1,7 @@
 use Rattle.std.proofs.Common.{◌≤◌, ◌-◌, take}
 use Rattle.dwarf_info.specs.Values.{passed_from}
 use Rattle.dwarf_info.proofs.PassedBefore.{IsLeft}
-use Rattle.dwarf_info.proofs.values.pass_before.Given as goal
+use Rattle.dwarf_info.proofs.values.pass_fronts.Given as goal
 
 abbrev pub invariant-loop-at : goal.invariant-loop-at
 invariant-loop-at g l = record {
