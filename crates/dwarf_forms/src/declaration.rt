@@ -7,9 +7,10 @@ ghost use Rattle.dwarf_forms.specs.Abbreviations.{table_at};
 ghost use Rattle.dwarf_forms.specs.Sizes.{fixed_size, in_32_bits, IsFixedFront};
 ghost use Rattle.dwarf_forms.specs.private.Indices.{AreKept};
 
-use crate::first_attributes::{first_index, firsts_of};
-use crate::fronts::{FixedFront, front_between, fronts_of};
+use crate::first_attributes::{first_among, first_index};
+use crate::fronts::{FixedFront, NO_FRONT, front_between};
 use crate::sizes::fixed_size;
+use crate::spec_index::{SpecIndex, index_for};
 use prof_bytes::{Fail, Memory};
 use std::alloc::Global;
 use std::collections::BTreeMap;
@@ -40,29 +41,28 @@ pub struct Spec {
 }
 
 /// The attributes of a declaration, in order. Contracts see them as a list. More than 32 attributes take eight bytes
-/// for each beside them, and four for each code of the standard.
+/// for each beside them, and four for each code of the standard; fewer take a pointer.
 #[derive(Debug, Drop)]
 pub struct Specs {
     items: Vec<Spec>,
     /// The number of bytes of their values, where their forms fix it.
     size: Option<u32>,
-    /// How far the forms of the last attributes fix the sizes of their values, for each number of attributes from 0 on.
-    fronts: Vec<FixedFront>,
-    /// For each code from 0 on, one more than the index of the first attribute with it; empty, where the attributes are
-    /// few.
-    firsts: Vec<u32>,
+    /// What is kept of them where they are more than a few.
+    index: Option<Box<SpecIndex>>,
 }
 
 impl Model for Specs {
-    ghost use Rattle.std.specs.Prelude.{List};
+    ghost use Rattle.std.specs.Prelude.{◌≡◌, IfSome, List};
     ghost use Rattle.dwarf_forms.specs.declared.declaration.Spec.{Spec};
-    ghost use Rattle.dwarf_forms.specs.private.SpecParts.{AreSpecParts};
+    ghost use Rattle.dwarf_forms.specs.Sizes.{fixed_size, in_32_bits};
+    ghost use Rattle.dwarf_forms.specs.private.SpecParts.{IsSpecIndex};
 
     ghost Value = { List Spec };
 
     ghost view = { λ specs. specs.items.items };
 
-    ghost invariant = { λ specs. AreSpecParts specs.items.items specs.size specs.fronts.items specs.firsts.items };
+    ghost invariant = { λ specs. (specs.size ≡ in_32_bits (fixed_size specs.items.items))
+        × IfSome specs.index (λ index. IsSpecIndex specs.items.items index.value.fronts.items index.value.firsts.items) };
 }
 
 impl Specs {
@@ -71,14 +71,8 @@ impl Specs {
         ensures { IfOk result (λ specs. specs ≡ items.items) }
     {
         let size = fixed_size(items.as_slice());
-        let fronts = fronts_of(alloc, items.as_slice())?;
-        let firsts = firsts_of(alloc, items.as_slice())?;
-        Ok(Specs {
-            items,
-            size,
-            fronts,
-            firsts,
-        })
+        let index = index_for(alloc, items.as_slice())?;
+        Ok(Specs { items, size, index })
     }
 
     /// The number of bytes of the values of an entry with these attributes, where it is the same for all such entries.
@@ -92,12 +86,18 @@ impl Specs {
     /// Of the attributes from index `from` up to index `to`, the first whose forms fix the sizes of their values: how many,
     /// and the number of bytes of these. Takes a few steps. All of them up to the first other form, where there are
     /// fewer than 2^32 with fewer bytes; no clause says so, and each can be read by itself.
+    #[tactic(auto, using(crate::proofs::FixedFronts::none_fixed))]
     pub fn fixed_front(&self, from: usize, to: usize) -> FixedFront
         requires from { from ≤ to }
         requires to { to ≤ length self.now }
         ensures { IsFixedFront (drop from (take to self.now)) result }
     {
-        front_between(self.fronts.as_slice(), self.items.len(), from, to)
+        match &self.index {
+            Some(index) => {
+                front_between(index.as_ref().fronts.as_slice(), self.items.len(), from, to)
+            }
+            None => NO_FRONT,
+        }
     }
 
     /// The index of the first attribute with a code. Takes one step for a code of the standard where there are more than
@@ -106,7 +106,11 @@ impl Specs {
         ensures first { result ≡ position (λ spec. spec.attribute == code) self.now }
         ensures within { IfSome result (λ index. index < length self.now) }
     {
-        first_index(self.items.as_slice(), self.firsts.as_slice(), code)
+        let items = self.items.as_slice();
+        match &self.index {
+            Some(index) => first_index(items, index.as_ref().firsts.as_slice(), code),
+            None => first_among(items, code),
+        }
     }
 
     /// The attributes.

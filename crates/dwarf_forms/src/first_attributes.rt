@@ -3,7 +3,6 @@ ghost use Rattle.std.specs.Prelude.{◌≡◌, ◌==◌, ◌<◌, ◌+◌, ◌^�
 ghost use Rattle.std.specs.Prelude.{if◌then◌else◌};
 ghost use Rattle.dwarf_forms.specs.private.SpecParts.{AreFirsts};
 
-use crate::constants::FEW_ATTRIBUTES;
 use crate::declaration::Spec;
 use prof_bytes::Memory;
 use std::alloc::Global;
@@ -12,7 +11,7 @@ use std::alloc::Global;
 const ATTRIBUTE_CODES: usize = 0x8d;
 
 /// The index of the first attribute with a code, by looking at one after the other.
-fn first_among(specs: &[Spec], code: u64) -> Option<usize>
+pub(crate) fn first_among(specs: &[Spec], code: u64) -> Option<usize>
     ensures { result ≡ position (λ spec. spec.attribute == code) specs.now }
 {
     specs.iter().position(|spec| spec.attribute == code)
@@ -64,11 +63,11 @@ fn noted(alloc: Global, specs: &[Spec]) -> Result<Vec<u32>, Memory>
     Ok(firsts)
 }
 
-/// The first attribute of each code of the standard, where there are more than a few attributes; else an empty list.
+/// The first attribute of each code of the standard; an empty list, where there are 2^32 attributes or more.
 pub(crate) fn firsts_of(alloc: Global, specs: &[Spec]) -> Result<Vec<u32>, Memory>
     ensures { IfOk result (λ firsts. AreFirsts specs.now firsts.items) }
 {
-    if FEW_ATTRIBUTES < specs.len() && specs.len() < 1 << 32 {
+    if specs.len() < 1 << 32 {
         return noted(alloc, specs);
     }
     Ok(Vec::new(alloc))

@@ -4,7 +4,6 @@ ghost use Rattle.dwarf_forms.specs.declared.declaration.Spec.{Spec};
 ghost use Rattle.dwarf_forms.specs.Sizes.{IsFixedFront};
 ghost use Rattle.dwarf_forms.specs.private.SpecParts.{AreFixedFronts};
 
-use crate::constants::FEW_ATTRIBUTES;
 use crate::declaration::Spec;
 use crate::sizes::with_form;
 use prof_bytes::Memory;
@@ -20,7 +19,7 @@ pub struct FixedFront {
 }
 
 /// No attribute.
-const NO_FRONT: FixedFront = FixedFront { count: 0, bytes: 0 };
+pub(crate) const NO_FRONT: FixedFront = FixedFront { count: 0, bytes: 0 };
 
 /// The front of attributes of which the first has this form, made of the front of the others. It is empty where that
 /// form doesn't fix the size of its value.
@@ -38,13 +37,10 @@ fn with_first(others: FixedFront, form: u64) -> FixedFront
     }
 }
 
-/// The front of the last attributes, for each number of them from 0 on; none where they are few.
+/// The front of the last attributes, for each number of them from 0 on.
 pub(crate) fn fronts_of(alloc: Global, specs: &[Spec]) -> Result<Vec<FixedFront>, Memory>
     ensures { IfOk result (λ fronts. AreFixedFronts specs.now fronts.items) }
 {
-    if specs.len() <= FEW_ATTRIBUTES {
-        return Ok(Vec::new(alloc));
-    }
     // room: `specs.len() + 1`, a front for each number of attributes
     let mut fronts = Vec::with_capacity(alloc, specs.len() + 1)?;
     let mut front = NO_FRONT;

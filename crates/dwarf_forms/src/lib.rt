@@ -15,6 +15,7 @@ mod lookup;
 mod read;
 mod section;
 mod sizes;
+mod spec_index;
 mod table;
 mod text;
 mod value;

@@ -38,6 +38,7 @@ fn form_size(form: u64) -> Option<u32>
 
 /// `total` and the number of bytes of a value of this form; `None` where the form doesn't fix it, or the sum is 2^32 or
 /// more.
+#[inline(always)]
 pub(crate) fn with_form(total: u32, form: u64) -> Option<u32>
     ensures sum { result ≡ in_32_bits (option_map (λ n. total + n) (form_size form)) }
     ensures small { IfSome result (λ n. n < 2 ^ 32) }

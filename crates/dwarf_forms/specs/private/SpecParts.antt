@@ -2,7 +2,7 @@
 use Rattle.std.specs.Prelude.{◌≡◌, ◌==◌, ◌+◌, ◌-◌, ℕ, List, length, drop, Option, Some, None, position, slice_get}
 use Rattle.dwarf_forms.specs.declared.declaration.Spec.{Spec}
 use Rattle.dwarf_forms.specs.declared.fronts.FixedFront.{FixedFront}
-use Rattle.dwarf_forms.specs.Sizes.{fixed_size, in_32_bits, IsFixedFront}
+use Rattle.dwarf_forms.specs.Sizes.{IsFixedFront}
 
 -- the front of the last attributes, for each number of them
 abbrev pub AreFixedFronts : List Spec → List FixedFront → Type 0
@@ -19,8 +19,7 @@ abbrev pub AreFirsts : List Spec → List ℕ → Type 0
 AreFirsts specs firsts = (code first : ℕ) → slice_get firsts code ≡ Some first
     → first ≡ after_index (position (λ spec. spec.attribute == code) specs)
 
--- the number of bytes of all values, the fronts and the first attributes are those of the declaration
-pub record AreSpecParts (specs : List Spec) (size : Option ℕ) (fronts : List FixedFront) (firsts : List ℕ) : Type 0 where
-  pub size_is : size ≡ in_32_bits (fixed_size specs)
+-- the fronts and the first attributes are those of the declaration
+pub record IsSpecIndex (specs : List Spec) (fronts : List FixedFront) (firsts : List ℕ) : Type 0 where
   pub fronts_are : AreFixedFronts specs fronts
   pub firsts_are : AreFirsts specs firsts
