@@ -7,6 +7,7 @@ ghost use Rattle.dwarf_forms.specs.Abbreviations.{table_at};
 ghost use Rattle.dwarf_forms.specs.Sizes.{fixed_size, in_32_bits, IsFixedFront};
 ghost use Rattle.dwarf_forms.specs.private.Indices.{AreKept};
 
+use crate::constants::FEW_ATTRIBUTES;
 use crate::first_attributes::{first_among, first_index};
 use crate::fronts::{FixedFront, NO_FRONT, front_between};
 use crate::sizes::fixed_size;
@@ -65,11 +66,22 @@ impl Model for Specs {
         × IfSome specs.index (λ index. IsSpecIndex specs.items.items index.value.fronts.items index.value.firsts.items) };
 }
 
+/// The attributes; where they are more than a few, without the room for more of them.
+fn without_room(mut items: Vec<Spec>) -> Vec<Spec>
+    ensures { result.items ≡ items.items }
+{
+    if FEW_ATTRIBUTES < items.len() {
+        items.shrink_to_fit();
+    }
+    items
+}
+
 impl Specs {
     /// These attributes.
     pub fn from_vec(alloc: Global, items: Vec<Spec>) -> Result<Specs, Memory>
         ensures { IfOk result (λ specs. specs ≡ items.items) }
     {
+        let items = without_room(items);
         let size = fixed_size(items.as_slice());
         let index = index_for(alloc, items.as_slice())?;
         Ok(Specs { items, size, index })

@@ -94,6 +94,7 @@ fn direct<'a, F: Copy>(
     }
 }
 
+#[inline(always)]
 fn named<'a, F: Copy>(reader: &mut Reader<'a, F>, form: u64, unknown: F) -> Result<Value<'a>, F>
     ensures { GivesAt form_value result reader.new (named_from unknown form reader.old) }
 {

@@ -50,7 +50,8 @@ pub none_left : (attribute : ℕ) (input : Input FormFault) → value_of attribu
 unfolding values_from
 none_left attribute input = refl
 
-not_found : (attribute : ℕ) (specs : List Spec) (input : Input FormFault) → find (λ (spec : Spec). spec.attribute == attribute) specs ≡ None
+-- an attribute that is not declared has no value
+pub not_found : (attribute : ℕ) (specs : List Spec) (input : Input FormFault) → find (λ (spec : Spec). spec.attribute == attribute) specs ≡ None
     → value_of attribute (values_from specs input) ≡ None
 unfolding values_from
 not_found attribute [] input none = refl
@@ -65,7 +66,7 @@ not_found attribute (spec ∷ specs) input none =
     by false at none (Err fault) again = refl
     by false at none (Ok r) again = rw at (again r.1 none)
 
--- an attribute that is not declared has no value
+-- nor has one that has no index
 pub not_declared : (attribute : ℕ) (specs : List Spec) (input : Input FormFault) → position (λ (spec : Spec). spec.attribute == attribute) specs ≡ None
     → value_of attribute (values_from specs input) ≡ None
 not_declared attribute specs input none = not_found attribute specs input (find_nowhere (λ (spec : Spec). spec.attribute == attribute) specs none)

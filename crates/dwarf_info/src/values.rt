@@ -1,5 +1,6 @@
 //! The values of one entry (DWARF 5, section 7.5.3).
-ghost use Rattle.std.specs.Prelude.{◌≡◌, ◌==◌, ◌≤◌, ◌<◌, ℕ, IfOk, length, option_map, position, take, List, Ok, Some};
+ghost use Rattle.std.specs.Prelude.{◌≡◌, ◌==◌, ◌≤◌, ◌<◌, ℕ, IfOk, find, length, option_copied, option_map, position, take};
+ghost use Rattle.std.specs.Prelude.{List, Ok, Some};
 ghost use Rattle.prof_bytes.specs.Outcome.{GivesAt};
 ghost use Rattle.prof_bytes.specs.Fields.{bytes_from, Input};
 ghost use Rattle.dwarf_forms.specs.declared.declaration.BadTable.{BadTable};
@@ -40,8 +41,13 @@ fn pass_bytes<F: Copy>(reader: &mut Reader<'_, F>, count: u32) -> Result<(), F>
 }
 
 /// Skips the values of these attributes one after the other.
-fn pass_each<F: Copy>(reader: &mut Reader<'_, F>, specs: &[Spec], unknown: F) -> Result<(), F>
-    ensures { GivesAt (λ u. u) result reader.new (passed_from unknown specs.now reader.old) }
+fn pass_each(
+    reader: &mut Reader<'_, InfoFault>,
+    specs: &[Spec],
+    unknown: InfoFault,
+) -> Result<(), InfoFault>
+    ensures passed { GivesAt (λ u. u) result reader.new (passed_from unknown specs.now reader.old) }
+    ensures keeps { IfOk result (λ _. reader.new.at.whole ≡ reader.old.at.whole) }
 {
     let mut rest = specs;
     while let Some((spec, others)) = rest.split_first() {
@@ -78,26 +84,8 @@ fn pass_fronts<F: Copy>(
     Ok(())
 }
 
-/// Skips the values of the attributes before an index.
-#[inline(always)]
-fn pass_before<F: Copy>(
-    reader: &mut Reader<'_, F>,
-    specs: &Specs,
-    index: usize,
-    unknown: F,
-) -> Result<(), F>
-    requires { index ≤ length specs.now }
-    ensures { GivesAt (λ u. u) result reader.new (passed_from unknown (take index specs.now) reader.old) }
-{
-    let items = specs.as_slice();
-    if items.len() <= FEW_ATTRIBUTES {
-        return pass_each(reader, &items[..index], unknown);
-    }
-    pass_fronts(reader, specs, index, unknown)
-}
-
-/// Skips the values of these attributes, in one step where their forms fix their number of bytes, and else as
-/// `pass_before` does; `unknown` is the fault of an unknown form.
+/// Skips the values of these attributes, in one step where their forms fix their number of bytes; `unknown` is the
+/// fault of an unknown form.
 #[inline(always)]
 pub(crate) fn pass_values(
     reader: &mut Reader<'_, InfoFault>,
@@ -107,15 +95,45 @@ pub(crate) fn pass_values(
     ensures passed { GivesAt (λ u. u) result reader.new (passed_from unknown specs.now reader.old) }
     ensures keeps { IfOk result (λ _. reader.new.at.whole ≡ reader.old.at.whole) }
 {
-    match specs.size() {
-        Some(size) => pass_bytes(reader, size),
-        None => pass_before(reader, specs, specs.as_slice().len(), unknown),
+    if let Some(size) = specs.size() {
+        return pass_bytes(reader, size);
     }
+    let items = specs.as_slice();
+    if items.len() <= FEW_ATTRIBUTES {
+        return pass_each(reader, items, unknown);
+    }
+    pass_fronts(reader, specs, items.len(), unknown)
 }
 
-/// The value with an index among those of a declaration, of which the first is here.
+/// The first of these attributes that has a code.
+fn spec_of(specs: &[Spec], attribute: u64) -> Option<&Spec>
+    ensures { option_copied result ≡ find (λ spec. spec.attribute == attribute) specs.now }
+{
+    specs.iter().find(|spec| spec.attribute == attribute)
+}
+
+/// The first value of an attribute among those of a declaration.
 #[inline(always)]
-fn value_with<'a>(
+fn value_by<'a>(
+    reader: &mut Reader<'a, FormFault>,
+    specs: &[Spec],
+    attribute: u64,
+) -> Option<Value<'a>>
+    ensures { option_map form_value result ≡ value_of attribute (values_from specs.now reader.old) }
+{
+    let mut rest = specs;
+    while let Some((spec, others)) = rest.split_first() {
+        match one_value(reader, spec, FormFault::Unknown) {
+            Ok(value) if spec.attribute == attribute => return Some(value),
+            Ok(_) => rest = others,
+            Err(_) => return None,
+        }
+    }
+    None
+}
+
+/// The value with an index among those of a declaration of more than a few attributes, of which the first is here.
+fn value_at_index<'a>(
     reader: &mut Reader<'a, FormFault>,
     specs: &Specs,
     index: usize,
@@ -124,15 +142,31 @@ fn value_with<'a>(
     ensures { (attribute : ℕ) → position (λ spec. spec.attribute == attribute) specs.now ≡ Some index
         → option_map form_value result ≡ value_of attribute (values_from specs.now reader.old) }
 {
-    match pass_before(reader, specs, index, FormFault::Unknown) {
+    match pass_fronts(reader, specs, index, FormFault::Unknown) {
         Ok(()) => one_value(reader, &specs.as_slice()[index], FormFault::Unknown).ok(),
         Err(_) => None,
     }
 }
 
+/// The first value of an attribute among those of a declaration of more than a few attributes.
+#[tactic(auto, using(crate::proofs::OneValue::not_declared))]
+#[inline(never)]
+fn late_value<'a>(
+    reader: &mut Reader<'a, FormFault>,
+    specs: &Specs,
+    attribute: u64,
+) -> Option<Value<'a>>
+    ensures { option_map form_value result ≡ value_of attribute (values_from specs.now reader.old) }
+{
+    match specs.index_of(attribute) {
+        Some(index) => value_at_index(reader, specs, index),
+        None => None,
+    }
+}
+
 /// The first value of an attribute among those of a declaration; where the declaration lacks the attribute, no value is
 /// read.
-#[tactic(auto, using(crate::proofs::OneValue::not_declared))]
+#[tactic(auto, using(crate::proofs::OneValue::not_found))]
 #[inline(always)]
 fn declared_value<'a>(
     reader: &mut Reader<'a, FormFault>,
@@ -141,28 +175,49 @@ fn declared_value<'a>(
 ) -> Option<Value<'a>>
     ensures { option_map form_value result ≡ value_of attribute (values_from specs.now reader.old) }
 {
-    match specs.index_of(attribute) {
-        Some(index) => value_with(reader, specs, index),
+    let items = specs.as_slice();
+    if FEW_ATTRIBUTES < items.len() {
+        return late_value(reader, specs, attribute);
+    }
+    match spec_of(items, attribute) {
+        Some(_) => value_by(reader, items, attribute),
         None => None,
     }
 }
 
-/// The value with an index among those of a declaration, of which the first is at an offset.
+/// The first value of an attribute among those of a declaration, of which the first is at an offset.
 #[inline(never)]
-fn value_among<'a>(bytes: &'a [u8], first: usize, specs: &Specs, index: usize) -> Option<Value<'a>>
-    requires first { first ≤ length bytes.now }
-    requires index { index < length specs.now }
-    ensures { (attribute : ℕ) → position (λ spec. spec.attribute == attribute) specs.now ≡ Some index
-        → option_map form_value result ≡ value_of attribute
+fn value_among<'a>(
+    bytes: &'a [u8],
+    first: usize,
+    specs: &[Spec],
+    attribute: u64,
+) -> Option<Value<'a>>
+    requires { first ≤ length bytes.now }
+    ensures { option_map form_value result ≡ value_of attribute
         (values_from specs.now (record { at = record { whole = bytes.now; offset = first }; missing = Short })) }
 {
     let mut reader = Reader::new(bytes, first, FormFault::Short);
-    value_with(&mut reader, specs, index)
+    value_by(&mut reader, specs, attribute)
 }
 
-/// The first value of an attribute among those of a declaration, of which the first is at an offset of a unit that ends
-/// at `end`; where the declaration lacks the attribute, no value is read.
-#[tactic(auto, using(crate::proofs::OneValue::not_declared))]
+/// The same among those of a declaration of more than a few attributes.
+fn late_value_among<'a>(
+    bytes: &'a [u8],
+    first: usize,
+    specs: &Specs,
+    attribute: u64,
+) -> Option<Value<'a>>
+    requires { first ≤ length bytes.now }
+    ensures { option_map form_value result ≡ value_of attribute
+        (values_from specs.now (record { at = record { whole = bytes.now; offset = first }; missing = Short })) }
+{
+    let mut reader = Reader::new(bytes, first, FormFault::Short);
+    late_value(&mut reader, specs, attribute)
+}
+
+/// The same in a unit that ends at `end`; where the declaration lacks the attribute, no value is read.
+#[tactic(auto, using(crate::proofs::OneValue::not_found))]
 #[inline(always)]
 pub(crate) fn value_after<'a>(
     info: &'a [u8],
@@ -175,8 +230,12 @@ pub(crate) fn value_after<'a>(
     ensures { option_map form_value result ≡ value_of attribute
         (values_from specs.now (section_up_to end info.now first Short)) }
 {
-    match specs.index_of(attribute) {
-        Some(index) => value_among(bytes_before(info, end), first, specs, index),
+    let items = specs.as_slice();
+    if FEW_ATTRIBUTES < items.len() {
+        return late_value_among(bytes_before(info, end), first, specs, attribute);
+    }
+    match spec_of(items, attribute) {
+        Some(_) => value_among(bytes_before(info, end), first, items, attribute),
         None => None,
     }
 }

@@ -20,12 +20,12 @@ returns-in-Some-clause-keeps c =
     (passed_moves c.args.unknown c.args.specs.now c.args.reader.now)
     (subst (λ r. GivesAt (λ u. u) c.pass_bytes.result c.pass_bytes.new.reader r) (sym (passed_fixed c.args.unknown c.args.specs.now c.in-Some.size c.args.reader.now (is_size (fixed_size c.args.specs.now) c.in-Some.size c.in-Some.ensures))) c.pass_bytes.ensures)
 
-pub returns-in-None-clause-passed : goal.returns-in-None-clause-passed
-returns-in-None-clause-passed c =
-    subst (λ (specs : List Spec). GivesAt (λ u. u) c.pass_before.result c.pass_before.new.reader (passed_from c.args.unknown specs c.args.reader.now))
-    (take_all (length c.as_slice.result.now) c.args.specs.now (let s = ap length c.as_slice.ensures in omega arith)) c.pass_before.ensures
+pub returns-clause-passed : goal.returns-clause-passed
+returns-clause-passed c =
+    subst (λ (specs : List Spec). GivesAt (λ u. u) c.pass_fronts.result c.pass_fronts.new.reader (passed_from c.args.unknown specs c.args.reader.now))
+    (take_all (length c.as_slice-items.result.now) c.args.specs.now (let s = ap length c.as_slice-items.ensures in omega arith)) c.pass_fronts.ensures
 
-pub returns-in-None-clause-keeps : goal.returns-in-None-clause-keeps
-returns-in-None-clause-keeps c =
-    keeps 0 (λ u. u) c.pass_before.result c.args.reader.now c.pass_before.new.reader (passed_from c.args.unknown (take (length c.as_slice.result.now) c.args.specs.now) c.args.reader.now)
-    (passed_moves c.args.unknown (take (length c.as_slice.result.now) c.args.specs.now) c.args.reader.now) c.pass_before.ensures
+pub returns-clause-keeps : goal.returns-clause-keeps
+returns-clause-keeps c =
+    keeps 0 (λ u. u) c.pass_fronts.result c.args.reader.now c.pass_fronts.new.reader (passed_from c.args.unknown (take (length c.as_slice-items.result.now) c.args.specs.now) c.args.reader.now)
+    (passed_moves c.args.unknown (take (length c.as_slice-items.result.now) c.args.specs.now) c.args.reader.now) c.pass_fronts.ensures
