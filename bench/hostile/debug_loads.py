@@ -133,6 +133,18 @@ def unsized_values(count, attributes=20_000):
     return structure(elf(info=unit(b"\1\0" * count), abbrev=table))
 
 
+def short_declarations(count):
+    """Declarations of one attribute each, with one code, and an entry of the first."""
+    table = declaration(1, [(DW_AT_name, DW_FORM_flag_present)]) * count + b"\0"
+    return structure(elf(info=unit(b"\1"), abbrev=table))
+
+
+def long_declarations(count, attributes=33):
+    """Declarations of one attribute more than are looked at one by one, with one code, and an entry of the first."""
+    table = declaration(1, [(DW_AT_name, DW_FORM_flag_present)] * attributes) * count + b"\0"
+    return structure(elf(info=unit(b"\1"), abbrev=table))
+
+
 def listed(count, ranges):
     """Inlined subroutines outside of subprograms that all name one list of ranges, a word each from the base on."""
     table = declaration(1, [(DW_AT_ranges, DW_FORM_sec_offset)], False, DW_TAG_inlined_subroutine) + b"\0"

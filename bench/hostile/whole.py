@@ -14,6 +14,8 @@ KINDS = {
     "entries": (debug.entries, 60_000_000), "codes": (debug.codes, 300_000),
     "empty_values": (debug.empty_values, 100_000), "names": (debug.names, 30_000_000),
     "late_attributes": (debug.late_attributes, 200_000), "unsized_values": (debug.unsized_values, 1_000_000),
+    "short_declarations": (debug.short_declarations, 1_500_000),
+    "long_declarations": (debug.long_declarations, 150_000),
     "long_name": (debug.long_name, 8_000_000), "shared_text": (debug.shared_text, 8_000_000),
     "units": (debug.units, 3_500_000), "tables": (debug.tables, 3_000),
     "overlapping_tables": (debug.overlapping_tables, 3_000), "repeated_codes": (debug.repeated_codes, 3_000),

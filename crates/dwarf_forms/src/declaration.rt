@@ -95,9 +95,9 @@ impl Specs {
         self.size
     }
 
-    /// Of the attributes from index `from` up to index `to`, the first whose forms fix the sizes of their values: how many,
-    /// and the number of bytes of these. Takes a few steps. All of them up to the first other form, where there are
-    /// fewer than 2^32 with fewer bytes; no clause says so, and each can be read by itself.
+    /// Of the attributes from index `from` up to index `to`, the first whose forms fix the sizes of their values: how
+    /// many, and the number of bytes of these. Takes a few steps. All of them up to the first other form, where there
+    /// are more than 32 attributes and fewer than 2^32 bytes; no clause says so, and each can be read by itself.
     #[tactic(auto, using(crate::proofs::FixedFronts::none_fixed))]
     pub fn fixed_front(&self, from: usize, to: usize) -> FixedFront
         requires from { from ≤ to }
@@ -112,8 +112,8 @@ impl Specs {
         }
     }
 
-    /// The index of the first attribute with a code. Takes one step for a code of the standard where there are more than
-    /// 32 attributes, and else at most as many steps as there are attributes.
+    /// The index of the first attribute with a code. Takes one step for a code of the standard where there are more
+    /// than 32 attributes, and else at most as many steps as there are attributes.
     pub fn index_of(&self, code: u64) -> Option<usize>
         ensures first { result ≡ position (λ spec. spec.attribute == code) self.now }
         ensures within { IfSome result (λ index. index < length self.now) }

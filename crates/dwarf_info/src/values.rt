@@ -59,8 +59,8 @@ fn pass_each(
     Ok(())
 }
 
-/// Skips the values of the first attributes, of more than a few: in one step those that follow one another whose forms fix
-/// their sizes, and each other value by itself. So it takes at most two steps for each byte that it skips, and two more.
+/// Skips the values of the first attributes, of more than a few: each whose form doesn't fix its size by itself, and
+/// what is between such values in one step. So it takes at most two steps for each byte that it skips, and two more.
 fn pass_fronts<F: Copy>(
     reader: &mut Reader<'_, F>,
     specs: &Specs,
