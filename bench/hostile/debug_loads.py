@@ -8,7 +8,8 @@ from row_files import BASE, words
 
 DW_TAG_compile_unit, DW_TAG_inlined_subroutine, DW_TAG_variable = 0x11, 0x1D, 0x34
 DW_AT_name, DW_AT_stmt_list, DW_AT_low_pc, DW_AT_high_pc = 0x03, 0x10, 0x11, 0x12
-DW_AT_abstract_origin, DW_AT_ranges, DW_AT_call_file, DW_AT_call_line = 0x31, 0x55, 0x58, 0x59
+DW_AT_abstract_origin, DW_AT_specification, DW_AT_ranges = 0x31, 0x47, 0x55
+DW_AT_call_file, DW_AT_call_line = 0x58, 0x59
 DW_FORM_addr, DW_FORM_data4, DW_FORM_string = 0x01, 0x06, 0x08
 DW_FORM_data1, DW_FORM_strp, DW_FORM_udata, DW_FORM_ref4, DW_FORM_sec_offset = 0x0B, 0x0E, 0x0F, 0x13, 0x17
 DW_FORM_flag_present, DW_FORM_line_strp = 0x19, 0x1F
@@ -114,6 +115,27 @@ def shared_text(count, length=20_000_000):
              + declaration(2, [(DW_AT_abstract_origin, DW_FORM_ref4)], False, DW_TAG_inlined_subroutine) + b"\0")
     first = len(unit(b""))
     return structure(elf(info=unit(b"\1" + b"n" * length + b"\0" + (b"\2" + words(first)) * count), abbrev=table))
+
+
+def of_links(calls, length):
+    """A subprogram, another that completes it behind a long text in its own entry, and what is made of the offset of
+    that entry and the offset behind it: subprograms that complete another (code 3), and inlined subroutines (code 4)."""
+    table = (declaration(1) + declaration(2, [(DW_AT_name, DW_FORM_string), (DW_AT_specification, DW_FORM_ref4)])
+             + declaration(3, [(DW_AT_specification, DW_FORM_ref4)])
+             + declaration(4, [(DW_AT_abstract_origin, DW_FORM_ref4)], False, DW_TAG_inlined_subroutine) + b"\0")
+    first = len(unit(b""))
+    body = b"\1\2" + b"n" * length + b"\0" + words(first)
+    return structure(elf(info=unit(body + calls(first + 1, first + len(body))), abbrev=table))
+
+
+def shared_entry(count, length=20_000_000):
+    """Inlined subroutines whose origin is one subprogram, with its own link behind a long text in its entry."""
+    return of_links(lambda long, behind: (b"\4" + words(long)) * count, length)
+
+
+def shared_second_entry(count, length=20_000_000):
+    """The same with a subprogram of its own between each inlined subroutine and that entry."""
+    return of_links(lambda long, behind: rows(count, b"\3" + words(long) + b"\4", ascending(behind, 10, count)), length)
 
 
 def flags(count):

@@ -17,6 +17,7 @@ KINDS = {
     "short_declarations": (debug.short_declarations, 1_500_000),
     "long_declarations": (debug.long_declarations, 150_000),
     "long_name": (debug.long_name, 8_000_000), "shared_text": (debug.shared_text, 8_000_000),
+    "shared_entry": (debug.shared_entry, 8_000_000), "shared_second_entry": (debug.shared_second_entry, 4_000_000),
     "units": (debug.units, 3_500_000), "tables": (debug.tables, 3_000),
     "overlapping_tables": (debug.overlapping_tables, 3_000), "repeated_codes": (debug.repeated_codes, 3_000),
     "long_numbers": (debug.long_numbers, 100_000), "shared_ranges": (debug.shared_ranges, 100_000),

@@ -43,7 +43,7 @@ pub struct Info<'a> {
     units: Vec<Unit>,
     contexts: Vec<UnitContext>,
     /// The offsets of the entries of all units.
-    offsets: Offsets,
+    pub(crate) offsets: Offsets,
     /// The index of the first entry of each unit.
     firsts: Vec<u32>,
     tables: Tables,

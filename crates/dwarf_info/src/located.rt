@@ -17,6 +17,9 @@ use prof_bytes::Memory;
 use std::alloc::Global;
 use std::marker::Model;
 
+/// The most bytes of an entry that isn't long.
+const MOST_SHORT_BYTES: u32 = 256;
+
 /// The declaration of an entry, and the offset of the entry's first value.
 #[derive(Clone, Copy)]
 pub(crate) struct DeclaredAt<'i> {
@@ -69,6 +72,46 @@ impl<'i, 'a> Entry<'i, 'a> {
         self.at.offset
     }
 
+    /// Its index.
+    pub fn index(&self) -> u32
+        ensures { result ≡ self.now.index }
+    {
+        self.at.index
+    }
+
+    /// The same entry.
+    pub fn copied(&self) -> Entry<'i, 'a>
+        ensures { result ≡ self.now }
+    {
+        Entry {
+            info: self.info,
+            at: self.at,
+        }
+    }
+
+    /// Whether it has more than 256 bytes, up to the next entry or the end of its unit. No clause says so: it tells only
+    /// whether asking it takes long.
+    #[inline(always)]
+    pub fn is_long(&self) -> bool {
+        let size = match self.at.declared {
+            Some(declared) => declared.by.specs.size(),
+            None => None,
+        };
+        let bytes = match size {
+            Some(size) => size,
+            None => self.bytes_to_next(),
+        };
+        bytes > MOST_SHORT_BYTES
+    }
+
+    /// The number of bytes up to the next entry or the end of its unit.
+    fn bytes_to_next(&self) -> u32 {
+        let end = self.at.context.header.end;
+        let info = self.info;
+        let next = info.offsets.get(self.at.index.saturating_add(1));
+        next.unwrap_or(end).min(end).saturating_sub(self.at.offset)
+    }
+
     /// The offset in `.debug_line` of the line table of its unit.
     pub fn line_table(&self) -> Option<u32>
         ensures { result ≡ option_and_then (λ e. e.context.stmt_list) (unit_entry self.now.info self.now.index) }
@@ -78,6 +121,7 @@ impl<'i, 'a> Entry<'i, 'a> {
 
     /// Its name (DWARF 5, section 2.15), or else its linkage name (section 2.22). Of a name in a section of texts no byte
     /// is looked at.
+    #[inline(always)]
     pub fn name(&self) -> Option<SectionText<'a>>
         ensures { option_map section_text result ≡ name_of self.now.info self.now.index }
     {

@@ -10,3 +10,4 @@ pub mod CheckedItems
 pub mod Whole
 pub mod Named
 pub mod KeptLists
+pub mod KeptAnswers

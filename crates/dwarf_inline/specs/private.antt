@@ -1,5 +1,6 @@
 pub mod Ends
 pub mod Levels
+pub mod Answers
 pub mod Names
 pub mod Details
 pub mod Kept

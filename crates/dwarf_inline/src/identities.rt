@@ -1,9 +1,12 @@
 //! The identities of items, and their names.
-ghost use Rattle.std.specs.Prelude.{◌≡◌, ◌==◌, ◌++◌, ◌∷◌, [], map, find, option_map, option_to_list, OnOk};
+ghost use Rattle.std.specs.Prelude.{◌≡◌, ◌==◌, ◌++◌, ◌∷◌, [], map, find, option_map, option_to_list, IfOk, OnOk};
 ghost use Rattle.std.specs.List.Sorted.{IsNonDecreasingBy, IsPermutation};
 ghost use Rattle.dwarf_inline.specs.Links.{entry_offset};
-ghost use Rattle.dwarf_inline.specs.private.Names.{named, pair_of};
+ghost use Rattle.dwarf_forms.specs.Sections.{section_text};
+ghost use Rattle.dwarf_inline.specs.private.Answers.{AreAnswers};
+ghost use Rattle.dwarf_inline.specs.private.Names.{named, paired, pair_of};
 
+use crate::long_entries::LongEntries;
 use dwarf_forms::SectionText;
 use dwarf_info::Entry;
 use prof_bytes::Memory;
@@ -40,16 +43,16 @@ impl<'a> Identities<'a> {
     }
 }
 
-/// Appends the name of an entry, if it has one.
+/// Appends a name, if there is one.
 fn add_name<'a>(
     names: &mut Vec<ProcName<'a>>,
-    entry: &Entry<'_, 'a>,
+    name: Option<SectionText<'a>>,
     identity: u32,
 ) -> Result<(), Memory>
-    ensures { OnOk result (map pair_of names.new.items
-        ≡ map pair_of names.old.items ++ option_to_list (named entry.now.info entry.now.index identity)) }
+    ensures { OnOk result (map pair_of names.new.items ≡ map pair_of names.old.items
+        ++ option_to_list (paired identity (option_map section_text name.entry))) }
 {
-    if let Some(name) = entry.name() {
+    if let Some(name) = name {
         names.push(ProcName { identity, name })?;
     }
     Ok(())
@@ -62,11 +65,15 @@ fn offset_of(entry: &Entry<'_, '_>) -> u32
     entry.offset()
 }
 
-/// Appends an identity with its name.
-pub(crate) fn add_identity<'a>(
+/// Appends the identity of an item whose entry is at the offset `own`, with its name.
+pub(crate) fn add_identity<'i, 'a>(
     identities: &mut Identities<'a>,
-    entry: &Entry<'_, 'a>,
+    long: &mut LongEntries<'i, 'a>,
+    entry: &Entry<'i, 'a>,
+    own: u32,
 ) -> Result<(), Memory>
+    requires { AreAnswers entry.now.info long.old.answers }
+    ensures answers { IfOk result (λ _. AreAnswers entry.now.info long.new.answers) }
     ensures offsets { OnOk result (identities.new.offsets.items
         ≡ identities.old.offsets.items ++ entry_offset entry.now.info entry.now.index ∷ []) }
     ensures names { OnOk result (map pair_of identities.new.names.items ≡ map pair_of identities.old.names.items
@@ -74,7 +81,8 @@ pub(crate) fn add_identity<'a>(
 {
     let offset = offset_of(entry);
     identities.offsets.push(offset)?;
-    add_name(&mut identities.names, entry, offset)
+    let name = long.name(entry, own)?;
+    add_name(&mut identities.names, name, offset)
 }
 
 /// Sorts names by their identities.

@@ -6,6 +6,7 @@ ghost use Rattle.dwarf_info.specs.Queries.{entry_with};
 ghost use Rattle.dwarf_info.specs.Subroutines.{item_entries, subroutine_entry};
 ghost use Rattle.dwarf_inline.specs.Links.{identity, identity_offset};
 ghost use Rattle.dwarf_inline.specs.Structure.{checked_items};
+ghost use Rattle.dwarf_inline.specs.private.Answers.{AreAnswers};
 ghost use Rattle.dwarf_inline.specs.private.Ends.{AreEndsFrom, depths_of};
 ghost use Rattle.dwarf_inline.specs.private.Levels.{checked_entry, open_at, opened};
 ghost use Rattle.dwarf_inline.specs.private.Names.{named_item, pair_of};
@@ -13,6 +14,7 @@ ghost use Rattle.dwarf_inline.specs.private.Names.{named_item, pair_of};
 use crate::fault::StructureFault;
 use crate::identities::{Identities, add_identity};
 use crate::links::identity_of;
+use crate::long_entries::LongEntries;
 use dwarf_info::{Entry, Info, SubroutineEntry};
 use prof_bytes::{Fail, Memory};
 use std::alloc::Global;
@@ -34,12 +36,15 @@ fn open_level(open_ends: &mut Vec<u32>, index: u32, end: u32) -> Result<usize, M
 /// The identity of an item, whose entry is `start`, unless it is at fault; `open_ends` has the ends of inlined subroutines
 /// before it.
 fn checked_item<'i, 'a>(
+    long: &mut LongEntries<'i, 'a>,
     start: Entry<'i, 'a>,
     item: &SubroutineEntry,
     end: u32,
     open_ends: &mut Vec<u32>,
 ) -> Result<Entry<'i, 'a>, Fail<StructureFault>>
-    requires { start.index ≡ item.now.index }
+    requires item { start.index ≡ item.now.index }
+    requires answers { AreAnswers start.info long.old.answers }
+    ensures answers { IfOk result (λ _. AreAnswers start.entry.info long.new.answers) }
     ensures gives { Gives (λ _. tt) result
         (checked_entry start.entry.info item.now (open_at item.now.index open_ends.old.items + 1)) }
     ensures identity { IfOk result (λ i. i ≡ entry_with start.entry.info (identity start.entry.info item.now.index)) }
@@ -50,7 +55,7 @@ fn checked_item<'i, 'a>(
         offset,
         inlined,
     } = *item;
-    let Some(identity) = identity_of(start) else {
+    let Some(identity) = identity_of(long, start)? else {
         return Err(Fail::Fault(StructureFault::LinkCycle { offset }));
     };
     if inlined {
@@ -79,13 +84,14 @@ fn checked_items<'a>(
 {
     let mut open_ends = Vec::new(alloc);
     let mut identities = Identities::new(alloc);
+    let mut long = LongEntries::new(alloc);
     let mut near = 0;
     for item in items {
         let entry = info.entry_of(item, near);
         near = entry.unit();
         let end = ends[item.index as usize];
-        let identity = checked_item(entry, item, end, &mut open_ends)?;
-        add_identity(&mut identities, &identity)?;
+        let identity = checked_item(&mut long, entry, item, end, &mut open_ends)?;
+        add_identity(&mut identities, &mut long, &identity, item.offset)?;
     }
     Ok(identities)
 }

@@ -12,6 +12,7 @@ mod fault;
 mod identities;
 mod levels;
 mod links;
+mod long_entries;
 mod structure;
 mod subroutine;
 

@@ -1,27 +1,38 @@
 //! Links from entries to those that they complete (DWARF 5, sections 2.13.2, 3.3.8.2 and 3.3.8.3).
-ghost use Rattle.std.specs.Prelude.{◌≡◌, Some, None, if◌then◌else◌};
+ghost use Rattle.std.specs.Prelude.{◌≡◌, IfOk, Some, None, if◌then◌else◌};
 ghost use Rattle.dwarf_info.specs.Queries.{entry_with};
 ghost use Rattle.dwarf_inline.specs.Links.{identity, has_more_links};
+ghost use Rattle.dwarf_inline.specs.private.Answers.{AreAnswers};
 
+use crate::long_entries::LongEntries;
 use dwarf_info::Entry;
+use prof_bytes::Memory;
 
 /// The most links that may follow one another.
 const MOST_LINKS: u32 = 8;
 
 /// The entry to which all links lead; `None` where more than `MOST_LINKS` follow one another.
-pub(crate) fn identity_of<'i, 'a>(start: Entry<'i, 'a>) -> Option<Entry<'i, 'a>>
-    ensures { result ≡ (if has_more_links start.entry.info start.entry.index then None
-        else Some (entry_with start.entry.info (identity start.entry.info start.entry.index))) }
+pub(crate) fn identity_of<'i, 'a>(
+    long: &mut LongEntries<'i, 'a>,
+    start: Entry<'i, 'a>,
+) -> Result<Option<Entry<'i, 'a>>, Memory>
+    requires { AreAnswers start.info long.old.answers }
+    ensures identity { IfOk result (λ i. i ≡ (if has_more_links start.entry.info start.entry.index then None
+        else Some (entry_with start.entry.info (identity start.entry.info start.entry.index)))) }
+    ensures answers { IfOk result (λ _. AreAnswers start.entry.info long.new.answers) }
 {
-    let mut last = start;
-    for _ in 0..MOST_LINKS {
-        match last.link() {
+    let Some(first) = start.link() else {
+        return Ok(Some(start));
+    };
+    let mut last = first;
+    for _ in 1..MOST_LINKS {
+        match long.link(&last)? {
             Some(next) => last = next,
-            None => return Some(last),
+            None => return Ok(Some(last)),
         }
     }
-    match last.link() {
-        Some(_) => None,
-        None => Some(last),
+    match long.link(&last)? {
+        Some(_) => Ok(None),
+        None => Ok(Some(last)),
     }
 }

@@ -17,9 +17,13 @@ Pair = ℕ × List ℕ
 abbrev pub pair_of : ProcName → Pair
 pair_of n = (n.identity, take most_name_bytes (section_text n.name))
 
+-- an identity with a name, cut, if there is one
+abbrev pub paired : ℕ → Option (List ℕ) → Option Pair
+paired offset name = option_map (λ name. (offset, take most_name_bytes name)) name
+
 -- an identity with the name of the entry with an index, cut, if it has one
 abbrev pub named : DebugInfo → ℕ → ℕ → Option Pair
-named info i offset = option_map (λ name. (offset, take most_name_bytes name)) (name_of info i)
+named info i offset = paired offset (name_of info i)
 
 -- the identity of an item with its name, if it has one
 abbrev pub named_item : DebugInfo → Indexed → List Pair

@@ -12,7 +12,17 @@ use Rattle.dwarf_inline.specs.private.Names.{named, named_item}
 use Rattle.dwarf_inline.proofs.KeptEntries.{nothing, kept_long, kept_index, kept_offset, end_within_ends, end_is}
 use Rattle.dwarf_inline.proofs.OpenLevels.{told_of, opens_kept}
 use Rattle.dwarf_inline.proofs.CheckedItems.{passes_on, all_pass, fails_at, identity_by, one_more, some_more}
+use Rattle.dwarf_inline.proofs.KeptAnswers.{answers_of}
 use Rattle.dwarf_inline.proofs.levels.checked_items.Goals as goal
+
+pub loop-item-init : goal.loop-item-init
+loop-item-init c = record {
+  checked = search rules;
+  offsets = search rules;
+  names = search rules;
+  answers = c.new-long.ensures c.args.info.now;
+  open_ends = search rules;
+}
 
 pub bounds-ends-item : goal.bounds-ends-item
 bounds-ends-item c = end_within_ends c.args.info.now c.args.items.now c.args.ends.now c.loop-item.item-index _ c.requires.items c.requires.ends c.loop-item-test.true
@@ -20,8 +30,17 @@ bounds-ends-item c = end_within_ends c.args.info.now c.args.items.now c.args.end
 pub entry_of-entry-requires : goal.entry_of-entry-requires
 entry_of-entry-requires c = kept_offset c.args.info.now c.args.items.now c.loop-item.item-index _ c.requires.items c.loop-item-test.true
 
-pub checked_item-requires : goal.checked_item-requires
-checked_item-requires c = ap (λ (e : EntryAt). e.index) c.entry_of-entry.ensures
+pub checked_item-requires-clause-item : goal.checked_item-requires-clause-item
+checked_item-requires-clause-item c = ap (λ (e : EntryAt). e.index) c.entry_of-entry.ensures
+
+pub checked_item-requires-clause-answers : goal.checked_item-requires-clause-answers
+checked_item-requires-clause-answers c =
+    answers_of c.args.info.now c.entry_of-entry.result.info c.loop-item.long.answers (ap (λ (e : EntryAt). e.info) c.entry_of-entry.ensures) c.loop-item.invariant.answers
+
+pub add_identity-requires : goal.add_identity-requires
+add_identity-requires c =
+    answers_of c.entry_of-entry.result.info c.in_ok-identity.identity.info c.checked_item.new.long.answers
+    (ap (λ (e : EntryAt). e.info) c.in_ok-identity.ensures.identity) c.in_ok-identity.ensures.answers
 
 pub returns-in_err-identity-clause-gives : goal.returns-in_err-identity-clause-gives
 returns-in_err-identity-clause-gives c =
@@ -50,6 +69,7 @@ loop-item-preserved c =
           (ap (λ (e : EntryAt). entry_offset e.info e.index) same) c.loop-item.invariant.offsets c.in_ok-add_identity.ensures.offsets;
       names = some_more (named_item info) (item_entries info) c.loop-item.item-index nothing _ _ _ within
           (ap (λ (e : EntryAt). option_to_list (named e.info e.index (entry_offset e.info e.index))) same) c.loop-item.invariant.names c.in_ok-add_identity.ensures.names;
+      answers = answers_of c.in_ok-identity.identity.info info c.add_identity.new.long.answers (sym (ap (λ (e : EntryAt). e.info) same)) c.in_ok-add_identity.ensures.answers;
       open_ends = opens_kept info c.args.items.now c.loop-item.item-index _ _ c.loop-item.open_ends.items _ c.requires.items c.loop-item-test.true
           (end_is info c.args.items.now c.args.ends.now c.loop-item.item-index _ c.requires.items c.requires.ends c.loop-item-test.true)
           c.loop-item.invariant.open_ends c.in_ok-identity.ensures.opened;
