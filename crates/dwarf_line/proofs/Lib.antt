@@ -10,6 +10,7 @@ pub mod Fuel
 pub mod CollectedRows
 pub mod SearchedRows
 pub mod UnkeptTables
+pub mod FoundLines
 pub mod TableLists
 pub mod CutPaths
 pub mod Within

@@ -108,7 +108,7 @@ first_append at one other =
     ap (λ (q : Option Sequence). option_map (line_in at) q) (find-append (λ (q : Sequence). holds at (sequence_range q)) one other)
     ∙ or_map at (find (λ q. holds at (sequence_range q)) one) (find (λ q. holds at (sequence_range q)) other)
 
-first_more : (segments : List Segment) (at i : ℕ) (tables : List UnkeptTable) (t : UnkeptTable) → i < length tables
+pub first_more : (segments : List Segment) (at i : ℕ) (tables : List UnkeptTable) (t : UnkeptTable) → i < length tables
     → first_line at (sequences_in segments (drop i tables))
     ≡ option_or (first_line at (unkept_read segments (get_or tables i t)).sequences) (first_line at (sequences_in segments (drop (i + 1) tables)))
 first_more segments at i tables t lt =

@@ -5,3 +5,4 @@ pub mod Rising
 pub mod Collecting
 pub mod Tables
 pub mod Unkept
+pub mod Found

@@ -9,6 +9,7 @@ mod code;
 pub mod constants;
 mod encoding;
 mod fault;
+mod found_lines;
 mod header;
 mod laws;
 mod lines;

@@ -1,14 +1,13 @@
 //! Sequences of the matrix, and the collection of those that count.
 ghost use Rattle.std.specs.Prelude.{◌≡◌, [], IfOk};
-ghost use Rattle.elf_image.specs.Image.{counts};
 ghost use Rattle.dwarf_line.specs.Sequences.{sequence_range, is_counted};
 ghost use Rattle.dwarf_line.specs.private.Collecting.{with_row, with_effect};
 ghost use Rattle.dwarf_line.specs.private.Unkept.{line_in};
 
+use crate::code::Segments;
 use crate::registers::LineRow;
 use crate::rows::SequenceRows;
 use address_ranges::{AddressRange, HasRange};
-use elf_image::Image;
 use prof_bytes::Memory;
 use scope_types::LineId;
 use std::alloc::Global;
@@ -55,35 +54,35 @@ impl HasRange for Sequence {
 
 /// The sequences that count of the programs that were run, and the rows of the open sequence.
 #[derive(Drop)]
-pub(crate) struct Collector<'i, 'f> {
+pub(crate) struct Collector<'s> {
     alloc: Global,
-    image: &'i Image<'f>,
+    segments: &'s Segments,
     sequences: Vec<Sequence>,
     table: u32,
     rows: Vec<LineRow>,
 }
 
-impl<'i, 'f> Model for Collector<'i, 'f> {
+impl<'s> Model for Collector<'s> {
     ghost use Rattle.dwarf_line.specs.private.Collecting.{Collected};
 
     ghost Value = { Collected };
 
     ghost view = { λ collector. record {
-      segments = collector.image.now.segments;
+      segments = collector.segments.now;
       sequences = collector.sequences.items;
       table = collector.table;
       rows = collector.rows.items;
     } };
 }
 
-impl<'i, 'f> Collector<'i, 'f> {
-    /// A collector of the sequences that lie in this program.
-    pub(crate) fn new(alloc: Global, image: &'i Image<'f>) -> Collector<'i, 'f>
-        ensures { result ≡ record { segments = image.now.segments; sequences = []; table = 0; rows = [] } }
+impl<'s> Collector<'s> {
+    /// A collector of the sequences that lie in these segments of a program.
+    pub(crate) fn new(alloc: Global, segments: &'s Segments) -> Collector<'s>
+        ensures { result ≡ record { segments = segments.now; sequences = []; table = 0; rows = [] } }
     {
         Collector {
             alloc,
-            image,
+            segments,
             sequences: Vec::new(alloc),
             table: 0,
             rows: Vec::new(alloc),
@@ -112,7 +111,7 @@ impl<'i, 'f> Collector<'i, 'f> {
             rows: SequenceRows::from_vec(self.alloc, rows)?,
             end: row.address,
         };
-        if is_counted(self.image, &sequence) {
+        if is_counted(self.segments, &sequence) {
             self.sequences.push(sequence)?;
         }
         Ok(())
@@ -137,11 +136,11 @@ impl<'i, 'f> Collector<'i, 'f> {
 }
 
 /// Whether a sequence isn't empty and lies within one executable segment of the program.
-fn is_counted(image: &Image<'_>, sequence: &Sequence) -> bool
-    ensures { result ≡ is_counted image.now.segments sequence.now }
+fn is_counted(segments: &Segments, sequence: &Sequence) -> bool
+    ensures { result ≡ is_counted segments.now sequence.now }
 {
     match sequence.rows.as_slice().first() {
-        Some(first) => image.counts(first.address, sequence.end),
+        Some(first) => segments.counts(first.address, sequence.end),
         None => false,
     }
 }

@@ -1,18 +1,23 @@
-//! Tables whose rows are not kept: their programs are run again for each address.
-ghost use Rattle.std.specs.Prelude.{◌≡◌, ◌<◌, ◌^◌, ◌∷◌, [], IfOk, length, map, option_map};
+//! Tables whose rows are not kept: their programs are run again, once for addresses that are known together, else for
+//! each address.
+ghost use Rattle.std.specs.Prelude.{◌≡◌, ◌<◌, ◌^◌, ◌∷◌, [], All, IfOk, None, length, map, option_map};
 ghost use Rattle.std.specs.List.{flat_map};
 ghost use Rattle.std.specs.Option.{option_copied};
 ghost use Rattle.prof_bytes.specs.Outcome.{viewed};
 ghost use Rattle.dwarf_line.specs.Lines.{table_by, table_with};
 ghost use Rattle.dwarf_line.specs.Sequences.{line_at};
+ghost use Rattle.dwarf_line.specs.private.Found.{IsFoundIn};
 ghost use Rattle.dwarf_line.specs.private.Unkept.{unkept_read, best_line, first_line};
 
 use crate::code::Segments;
 use crate::encoding::LineEncoding;
 use crate::fault::LineFault;
+use crate::found_lines::{FoundLine, line_among, look_up, wanted};
 use crate::header::LineHeader;
 use crate::rows::BestRow;
+use crate::run::sequences_of;
 use crate::search::search;
+use crate::sequence::Sequence;
 use crate::tables::Table;
 use address_ranges::{AddressRange, HasRange, RangeTable};
 use prof_bytes::{Memory, Reader};
@@ -104,6 +109,20 @@ impl<'a> UnkeptTable<'a> {
         })
     }
 
+    /// The sequences of the table that count, by address.
+    fn sequences(&self, alloc: Global, segments: &Segments) -> Result<RangeTable<Sequence>, Memory>
+        ensures { IfOk result (λ sequences. sequences ≡ (unkept_read segments.now self.now).sequences) }
+    {
+        let mut program = self.program.fork();
+        sequences_of(
+            alloc,
+            &self.encoding,
+            &mut program,
+            segments,
+            self.names.offset,
+        )
+    }
+
     /// The line in force at an address, in the first sequence of the table that counts and holds the address. Takes no
     /// memory, and time linear in the bytes of the program.
     fn line_at(&self, segments: &Segments, pc: u32) -> Option<Option<LineId>>
@@ -129,21 +148,48 @@ fn first_line(tables: &[UnkeptTable<'_>], segments: &Segments, pc: u32) -> Optio
     None
 }
 
-/// The tables of some offsets whose rows are not kept. Contracts see what is read of each.
+/// The lines of these tables at addresses of which nothing is found yet. Each program is run once, and the rows of one
+/// table are kept at a time: 16 bytes each, and as much again where the addresses of a sequence fall.
+fn found_lines(
+    alloc: Global,
+    tables: &[UnkeptTable<'_>],
+    segments: &Segments,
+    wanted: Vec<FoundLine>,
+) -> Result<Vec<FoundLine>, Memory>
+    requires { All (λ f. f.line ≡ None) wanted.items }
+    ensures { IfOk result (λ found.
+        All (IsFoundIn (flat_map (λ t. (unkept_read segments.now t).sequences) tables.now)) found.items) }
+{
+    let mut found = wanted;
+    for table in tables {
+        let sequences = table.sequences(alloc, segments)?;
+        look_up(&mut found, &sequences);
+    }
+    Ok(found)
+}
+
+/// The tables of some offsets whose rows are not kept, and their lines at the addresses that were asked for together,
+/// 24 bytes each. Contracts see what is read of each table.
 #[derive(Drop)]
 pub(crate) struct UnkeptTables<'a> {
     tables: RangeTable<UnkeptTable<'a>>,
     segments: Segments,
+    found: Vec<FoundLine>,
 }
 
 impl<'a> Model for UnkeptTables<'a> {
-    ghost use Rattle.std.specs.Prelude.{List, map};
+    ghost use Rattle.std.specs.Prelude.{All, List, map};
+    ghost use Rattle.std.specs.List.{flat_map};
     ghost use Rattle.dwarf_line.specs.Lines.{TableRead};
+    ghost use Rattle.dwarf_line.specs.private.Found.{IsFoundIn};
     ghost use Rattle.dwarf_line.specs.private.Unkept.{unkept_read};
 
     ghost Value = { List TableRead };
 
     ghost view = { λ unkept. map (unkept_read unkept.segments) unkept.tables };
+
+    ghost invariant = { λ unkept.
+        All (IsFoundIn (flat_map (λ t. (unkept_read unkept.segments t).sequences) unkept.tables)) unkept.found.items };
 }
 
 impl<'a> UnkeptTables<'a> {
@@ -155,7 +201,39 @@ impl<'a> UnkeptTables<'a> {
         ensures { IfOk result (λ unkept. unkept ≡ map (unkept_read segments) tables.entry.items) }
     {
         let tables = RangeTable::of(alloc, tables)?;
-        Ok(UnkeptTables { tables, segments })
+        Ok(UnkeptTables {
+            tables,
+            segments,
+            found: Vec::new(alloc),
+        })
+    }
+
+    /// Whether there are such tables. Only time follows from it, so it has no clause.
+    pub(crate) fn is_some(&self) -> bool {
+        !self.tables.items().is_empty()
+    }
+
+    /// The same tables, with their lines at these addresses, which ascend. What is found decides only how long a later
+    /// search takes, so that no clause says which addresses these are.
+    pub(crate) fn with_lines_at(
+        self,
+        alloc: Global,
+        addresses: &[u32],
+    ) -> Result<UnkeptTables<'a>, Memory>
+        ensures { IfOk result (λ unkept. unkept ≡ self.entry) }
+    {
+        let UnkeptTables {
+            tables,
+            segments,
+            ..
+        } = self;
+        let asked = wanted(alloc, addresses)?;
+        let found = found_lines(alloc, tables.items(), &segments, asked)?;
+        Ok(UnkeptTables {
+            tables,
+            segments,
+            found,
+        })
     }
 
     /// The names of the table at an offset.
@@ -168,10 +246,14 @@ impl<'a> UnkeptTables<'a> {
         }
     }
 
-    /// The line in force at an address. Takes no memory, and time linear in the bytes of the tables' programs.
+    /// The line in force at an address. Takes no memory, and time logarithmic in the number of found lines where the
+    /// address is among them, else linear in the bytes of the tables' programs.
     pub(crate) fn line_at(&self, pc: u32) -> Option<LineId>
         ensures { result ≡ line_at (flat_map (λ t. t.sequences) self.now) pc }
     {
-        first_line(self.tables.items(), &self.segments, pc)
+        match line_among(self.found.as_slice(), pc) {
+            Some(line) => line.unwrap_or(None),
+            None => first_line(self.tables.items(), &self.segments, pc),
+        }
     }
 }

@@ -108,6 +108,18 @@ fn lines_are(alloc: Global, lines: &LineTable<'_>, program: &Program) -> Result<
     names_are(alloc, lines, program.names)
 }
 
+/// Addresses of which rows are looked for together, in no order: one is there twice, and no table has the last one.
+const ASKED: &[u32] = &[0x10040, 0x10020, 0x1004c, 0x10040, 0x10010, 0x10050];
+
+/// Whether these are a program's lines, and still are where rows were looked for together.
+fn lines_stay(alloc: Global, lines: LineTable<'_>, program: &Program) -> Result<bool, Memory> {
+    if !lines_are(alloc, &lines, program)? {
+        return Ok(false);
+    }
+    let lines = lines.with_rows_at(alloc, Vec::from_slice(alloc, ASKED)?)?;
+    lines_are(alloc, &lines, program)
+}
+
 /// Whether an image and these sections have a program's lines.
 fn image_has_lines(
     alloc: Global,
@@ -116,7 +128,7 @@ fn image_has_lines(
     program: &Program,
 ) -> Result<bool, Unread> {
     let lines = lines_of(alloc, sections, image, program.offsets)?;
-    Ok(lines_are(alloc, &lines, program)?)
+    Ok(lines_stay(alloc, lines, program)?)
 }
 
 /// Whether a file and these sections have a program's lines.
