@@ -145,7 +145,7 @@ record RecoveredTo (words : Words) (registers : List ℕ) (cfa : ℕ) (regs : Li
   pub rest : (k : ℕ) → n ≤ k → get_or values k 0 ≡ get_or registers k 0
   pub mapped : list_any (is_unmapped_register words cfa) few ≡ list_any (is_unmapped words cfa) (take n regs)
 
-kept_rule : (rule : Rule) → is_kept rule ≡ true → rule ≡ rules.Kept
+pub kept_rule : (rule : Rule) → is_kept rule ≡ true → rule ≡ rules.Kept
 kept_rule rules.Kept e = refl
 kept_rule rules.Undefined e = absurd cc
 kept_rule (rules.Saved offset) e = absurd cc

@@ -2,7 +2,8 @@
 ghost use Rattle.std.specs.Prelude.{◌≡◌, ◌+◌, ◌<◌, ◌≤◌, ◌^◌, ℕ, List, [], IfOk, IfSome, length, map, take, false, true};
 ghost use Rattle.std.specs.Prelude.{Option, Some};
 ghost use Rattle.cfi_unwind.specs.private.UnwindRules.{is_kept, saved_rule, usual_layout, return_address_saved, unwound_with, unwound_by};
-ghost use Rattle.cfi_unwind.specs.private.UnwindRules.{AreSaved, Recovers, FollowsRules, FollowsSome};
+ghost use Rattle.cfi_unwind.specs.private.UnwindRules.{AreSaved, HasSaved, IsLayoutOf, Recovers, FollowsRules, FollowsSome};
+ghost use Rattle.cfi_unwind.specs.declared.unwind_rule.UnwindRule.TheVariants.{Saved};
 ghost use Rattle.cfi_unwind.specs.private.Index.{IsAt, KeepsRules};
 ghost use Rattle.cfi_table.specs.declared.rules.Rules.{Rules};
 ghost use Rattle.cfi_unwind.specs.Caller.{Words, is_undefined};
@@ -53,14 +54,13 @@ fn save_each(rules: &RulesRef<'_>, saved: &mut SavedRegisters) -> bool
     let regs = rules.regs();
     let mut from = 0;
     while let Some(register) = rules.next_changed(from) {
-        match regs[usize::from(register)] {
-            Rule::Kept => {}
-            Rule::Saved(offset) => {
-                if !saved.push(SavedRegister { register, offset }) {
-                    return false;
-                }
+        let rule = regs[usize::from(register)];
+        if let Rule::Saved(offset) = rule {
+            if !saved.push(SavedRegister { register, offset }) {
+                return false;
             }
-            _ => return false,
+        } else if !is_kept(&rule) {
+            return false;
         }
         from = register + 1;
     }
@@ -83,41 +83,42 @@ fn return_offset(saved: &[SavedRegister]) -> Option<u32>
     }
 }
 
-/// The unwind rule of a layout and the registers that are saved, in the form that takes least time.
+/// The CFA's offset and the return address's, where the return address alone is saved in the usual layout.
 #[inline(always)]
-fn rule_of(layout: FrameLayout, saved: SavedRegisters) -> UnwindRule
-    ensures { (words : Words) (before : List ℕ)
-        → unwound_by words before result ≡ unwound_with words before layout (map saved_rule saved) }
+fn return_saved(unwind_rule: &UnwindRule) -> Option<(u32, u32)>
+    ensures { IfSome result (λ offsets. (words : Words) (before : List ℕ)
+        → unwound_with words before (usual_layout offsets.0) (return_address_saved offsets.1)
+        ≡ unwound_by words before unwind_rule.now) }
 {
-    if is_usual(&layout) {
-        if let Some(offset) = return_offset(saved.as_slice()) {
-            return UnwindRule::ReturnSaved {
-                cfa_offset: layout.cfa_offset,
-                offset,
-            };
+    match unwind_rule {
+        UnwindRule::Saved(layout, saved) if is_usual(layout) => {
+            let offset = return_offset(saved.as_slice())?;
+            Some((layout.cfa_offset, offset))
         }
+        _ => None,
     }
-    UnwindRule::Saved(layout, saved)
 }
 
-/// The unwind rule of rules by which each register is kept or saved, and there is a return address.
+/// Gives an unwind rule of saved registers the form that takes least time.
 #[inline(always)]
-fn rule_by_saved(rules: &RulesRef<'_>, saved: SavedRegisters) -> UnwindRule
-    requires address { is_undefined (rule_at rules.now.regs rules.now.return_register) ≡ false }
-    requires saved { AreSaved saved rules.now.regs }
-    ensures { FollowsSome result rules.now }
+fn shorten(unwind_rule: &mut UnwindRule)
+    ensures { (words : Words) (before : List ℕ)
+        → unwound_by words before unwind_rule.new ≡ unwound_by words before unwind_rule.old }
 {
-    match rules.cfa() {
-        Cfa::Register { reg, offset } => {
-            let layout = FrameLayout {
-                cfa_register: reg,
-                cfa_offset: offset,
-                return_register: rules.return_register(),
-            };
-            rule_of(layout, saved)
-        }
-        Cfa::Missing => UnwindRule::Ends(End::Partial(PartialCause::NoCfa)),
-        Cfa::Expression => UnwindRule::Ends(End::Partial(PartialCause::Expression)),
+    if let Some((cfa_offset, offset)) = return_saved(unwind_rule) {
+        *unwind_rule = UnwindRule::ReturnSaved { cfa_offset, offset };
+    }
+}
+
+/// Puts the saved registers into an unwind rule that has none, as `save_each` does. False where that is.
+#[inline(always)]
+fn save_in_rule(unwind_rule: &mut UnwindRule, layout: FrameLayout, rules: &RulesRef<'_>) -> bool
+    requires { unwind_rule.old ≡ Saved layout [] }
+    ensures { result ≡ true → HasSaved layout unwind_rule.new rules.now.regs }
+{
+    match unwind_rule {
+        UnwindRule::Saved(_, saved) => save_each(rules, saved),
+        _ => false,
     }
 }
 
@@ -157,8 +158,82 @@ fn push_made(unwind_rules: &mut Vec<UnwindRule>, unwind_rule: UnwindRule) -> Res
     Ok(id)
 }
 
-/// The id of a new unwind rule that follows rules that are in force. One of saved registers, which is large, is moved
-/// into the list where it is made.
+/// Makes an unwind rule in its place of any rules by which there is a return address.
+#[cold]
+#[inline(never)]
+fn make_by_all(
+    alloc: Global,
+    unwind_rule: &mut UnwindRule,
+    rules: &RulesRef<'_>,
+) -> Result<(), Memory>
+    requires { is_undefined (rule_at rules.now.regs rules.now.return_register) ≡ false }
+    ensures { IfOk result (λ done. FollowsSome unwind_rule.new rules.now) }
+{
+    *unwind_rule = rule_by_all(alloc, rules)?;
+    Ok(())
+}
+
+/// Makes an unwind rule in its place that follows rules of this layout by which there is a return address.
+#[inline(always)]
+fn make_in_place(
+    alloc: Global,
+    unwind_rule: &mut UnwindRule,
+    layout: FrameLayout,
+    rules: &RulesRef<'_>,
+) -> Result<(), Memory>
+    requires empty { unwind_rule.old ≡ Saved layout [] }
+    requires layout { IsLayoutOf layout rules.now }
+    requires address { is_undefined (rule_at rules.now.regs rules.now.return_register) ≡ false }
+    ensures { IfOk result (λ done. FollowsSome unwind_rule.new rules.now) }
+{
+    if !save_in_rule(unwind_rule, layout, rules) {
+        return make_by_all(alloc, unwind_rule, rules);
+    }
+    shorten(unwind_rule);
+    Ok(())
+}
+
+/// The id of a new unwind rule that follows rules of this layout by which there is a return address. It is made in the
+/// list, since it is large.
+#[inline(always)]
+fn push_saved(
+    alloc: Global,
+    unwind_rules: &mut Vec<UnwindRule>,
+    layout: FrameLayout,
+    rules: &RulesRef<'_>,
+) -> Result<u32, Memory>
+    requires few { length unwind_rules.old.items < 2 ^ 20 }
+    requires layout { IsLayoutOf layout rules.now }
+    requires address { is_undefined (rule_at rules.now.regs rules.now.return_register) ≡ false }
+    ensures keeps { KeepsRules unwind_rules.old.items unwind_rules.new.items }
+    ensures few { length unwind_rules.new.items ≤ length unwind_rules.old.items + 1 }
+    ensures id { IfOk result (λ id. IsAt unwind_rules.new.items id (Some rules.now)) }
+{
+    let id = unwind_rules.len();
+    unwind_rules.push(UnwindRule::Saved(layout, SavedRegisters::none()))?;
+    make_in_place(alloc, &mut unwind_rules[id], layout, rules)?;
+    Ok(id as u32)
+}
+
+/// The id of a new unwind rule of any rules by which there is a return address.
+#[cold]
+#[inline(never)]
+fn push_by_all(
+    alloc: Global,
+    unwind_rules: &mut Vec<UnwindRule>,
+    rules: &RulesRef<'_>,
+) -> Result<u32, Memory>
+    requires few { length unwind_rules.old.items < 2 ^ 20 }
+    requires address { is_undefined (rule_at rules.now.regs rules.now.return_register) ≡ false }
+    ensures keeps { KeepsRules unwind_rules.old.items unwind_rules.new.items }
+    ensures few { length unwind_rules.new.items ≤ length unwind_rules.old.items + 1 }
+    ensures id { IfOk result (λ id. IsAt unwind_rules.new.items id (Some rules.now)) }
+{
+    Ok(push_made(unwind_rules, rule_by_all(alloc, rules)?)?)
+}
+
+/// The id of a new unwind rule that follows rules that are in force.
+#[inline(always)]
 fn push_by(
     alloc: Global,
     unwind_rules: &mut Vec<UnwindRule>,
@@ -172,14 +247,19 @@ fn push_by(
     if is_outermost(rules) {
         return Ok(push_made(unwind_rules, UnwindRule::Ends(End::Whole))?);
     }
-    let mut saved = SavedRegisters::none();
-    if !save_each(rules, &mut saved) {
-        return Ok(push_made(unwind_rules, rule_by_all(alloc, rules)?)?);
-    }
-    Ok(push_made(unwind_rules, rule_by_saved(rules, saved))?)
+    let Cfa::Register { reg, offset } = rules.cfa() else {
+        return push_by_all(alloc, unwind_rules, rules);
+    };
+    let layout = FrameLayout {
+        cfa_register: reg,
+        cfa_offset: offset,
+        return_register: rules.return_register(),
+    };
+    push_saved(alloc, unwind_rules, layout, rules)
 }
 
 /// The id of a new unwind rule that follows the rules at an address, if there are any.
+#[inline(always)]
 pub(crate) fn push_rule(
     alloc: Global,
     unwind_rules: &mut Vec<UnwindRule>,

@@ -9,6 +9,7 @@ use Rattle.scope_types.specs.declared.frame.PartialCause.TheVariants as causes
 use Rattle.cfi_table.specs.declared.rules.Rule.{Rule}
 use Rattle.cfi_table.specs.declared.rules.Rule.TheVariants as rules
 use Rattle.cfi_table.specs.declared.rules.Rules.{Rules}
+use Rattle.cfi_table.specs.declared.rules.Cfa.TheVariants as cfas
 use Rattle.cfi_unwind.specs.declared.caller.Unwound.{Unwound}
 use Rattle.cfi_unwind.specs.declared.caller.Unwound.TheVariants.{Caller, Ends}
 use Rattle.cfi_unwind.specs.declared.unwind_rule.RegisterRule.{RegisterRule}
@@ -59,6 +60,17 @@ saved_rule saved = record { register = saved.register; rule = rules.Saved saved.
 pub record AreSaved (saved : List SavedRegister) (regs : List Rule) : Type 0 where
   pub recovers : Recovers (map saved_rule saved) regs
   pub expression : list_any is_expression regs ≡ false
+
+-- the unwind rule is of the layout and such registers
+pub record HasSaved (layout : FrameLayout) (unwind_rule : UnwindRule) (regs : List Rule) : Type 0 where
+  pub saved : List SavedRegister
+  pub is : unwind_rule ≡ unwind_rules.Saved layout saved
+  pub saves : AreSaved saved regs
+
+-- the canonical frame address and the return address are found by the layout
+pub record IsLayoutOf (layout : FrameLayout) (found : Rules) : Type 0 where
+  pub cfa : found.cfa ≡ cfas.Register layout.cfa_register layout.cfa_offset
+  pub return_register : layout.return_register ≡ found.return_register
 
 -- the canonical frame address is so far above x2, and x1 has the return address
 abbrev pub usual_layout : ℕ → FrameLayout

@@ -1,10 +1,10 @@
-use Rattle.std.proofs.Common.{◌-◌, List, refl, sym, subst, arith}
+use Rattle.std.proofs.Common.{◌-◌, List, refl, sym, subst, ◌∙◌, arith}
 use Rattle.cfi_table.specs.declared.rules.Rule.{Rule}
 use Rattle.cfi_table.specs.Rules.{AreSameValue}
 use Rattle.cfi_unwind.specs.private.UnwindRules.{AreSaved}
-use Rattle.cfi_unwind.proofs.FewRules.{kept_on, saved_on, kept_up_to, all_saved}
+use Rattle.cfi_unwind.proofs.FewRules.{kept_rule, kept_on, saved_on, kept_up_to, all_saved}
 use Rattle.cfi_unwind.proofs.prepare.save_each.Goals as goal
-use Rattle.cfi_unwind.proofs.prepare.save_each.Goals.{in-Kept, in-Saved+else-not-push}
+use Rattle.cfi_unwind.proofs.prepare.save_each.Goals.{in_default-rule+else-not-is_kept, in-Saved+else-not-push}
 
 pub loop-register-preserved : goal.loop-register-preserved
 loop-register-preserved c =
@@ -16,8 +16,8 @@ loop-register-preserved c =
     let same = subst (λ (rs : List Rule). AreSameValue rs from register) (sym c.regs-regs.ensures.regs) c.in-Some.ensures.2 in
     let above = c.in-Some.ensures.0 in
     let before = kept_up_to regs from (register - from) register c.loop-register.saved (omega arith) (omega arith) full same c.loop-register.invariant.saved in
-    elim c.match-regs-from.branch [
-      | in-Kept w ↦ rw w.saved-is (record { low = omega arith; saved = kept_on regs register c.from.result _ _ c.loop-register.saved low full c.from.ensures refl w.in-Kept.is before })
+    elim c.match-rule.branch [
+      | in_default-rule+else-not-is_kept w ↦ rw w.saved-is (record { low = omega arith; saved = kept_on regs register c.from.result _ _ c.loop-register.saved low full c.from.ensures refl (kept_rule _ (sym w.is_kept.ensures ∙ w.if-not-is_kept.false)) before })
       | in-Saved+else-not-push w ↦ rw w.saved-is (record { low = omega arith; saved = saved_on regs register c.from.result _ _ w.in-Saved.offset c.loop-register.saved w.push.new.self low full c.from.ensures refl w.in-Saved.is w.if-not-push.ensures before })
     ]
 
