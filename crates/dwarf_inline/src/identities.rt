@@ -81,7 +81,7 @@ pub(crate) fn add_identity<'i, 'a>(
 {
     let offset = offset_of(entry);
     identities.offsets.push(offset)?;
-    let name = long.name(entry, own)?;
+    let name = long.name(entry, own);
     add_name(&mut identities.names, name, offset)
 }
 

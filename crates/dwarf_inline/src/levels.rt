@@ -55,7 +55,7 @@ fn checked_item<'i, 'a>(
         offset,
         inlined,
     } = *item;
-    let Some(identity) = identity_of(long, start)? else {
+    let Some(identity) = identity_of(long, start) else {
         return Err(Fail::Fault(StructureFault::LinkCycle { offset }));
     };
     if inlined {

@@ -1,5 +1,5 @@
 //! What long entries were asked.
-ghost use Rattle.std.specs.Prelude.{◌≡◌, ℕ, IfOk, OnOk, Some, option_map, if◌then◌else◌, ◌==◌};
+ghost use Rattle.std.specs.Prelude.{◌≡◌, ℕ, OnErr, OnOk, Some, option_map, if◌then◌else◌, ◌==◌};
 ghost use Rattle.std.specs.Ordering.{nat_cmp};
 ghost use Rattle.std.specs.BTreeMap.{get};
 ghost use Rattle.dwarf_forms.specs.Sections.{section_text};
@@ -55,11 +55,23 @@ fn add_answer<'i, 'a>(
     index: u32,
     answer: Answer<'i, 'a>,
 ) -> Result<(), Memory>
-    ensures { OnOk result ((q : ℕ) → get nat_cmp answers.new q
+    ensures ok { OnOk result ((q : ℕ) → get nat_cmp answers.new q
         ≡ (if index == q then Some answer.entry else get nat_cmp answers.old q)) }
+    ensures err { OnErr result ((q : ℕ) → get nat_cmp answers.new q ≡ get nat_cmp answers.old q) }
 {
     answers.insert(index, answer)?;
     Ok(())
+}
+
+/// Keeps an answer. Without memory for it the entry is asked again.
+fn keep<'i, 'a>(answers: &mut BTreeMap<u32, Answer<'i, 'a>>, index: u32, answer: Answer<'i, 'a>)
+    ensures { (info : DebugInfo) → AreAnswers info answers.old → IsAnswer info index answer.entry
+        → AreAnswers info answers.new }
+{
+    match add_answer(answers, index, answer) {
+        Ok(()) => {}
+        Err(_) => {}
+    }
 }
 
 impl<'i, 'a> LongEntries<'i, 'a> {
@@ -74,53 +86,47 @@ impl<'i, 'a> LongEntries<'i, 'a> {
 
     /// What an entry answers. It is asked the first time alone.
     #[inline(never)]
-    fn answer(&mut self, entry: &Entry<'i, 'a>) -> Result<Answer<'i, 'a>, Memory>
+    fn answer(&mut self, entry: &Entry<'i, 'a>) -> Answer<'i, 'a>
         requires { AreAnswers entry.now.info self.old.answers }
-        ensures is { IfOk result (IsAnswer entry.now.info entry.now.index) }
-        ensures answers { IfOk result (λ _. AreAnswers entry.now.info self.new.answers) }
+        ensures is { IsAnswer entry.now.info entry.now.index result }
+        ensures answers { AreAnswers entry.now.info self.new.answers }
     {
         let index = entry.index();
         if let Some(answer) = self.answers.get(&index) {
-            return Ok(copied(answer));
+            return copied(answer);
         }
         let answer = answer_of(entry);
         let kept = copied(&answer);
-        add_answer(&mut self.answers, index, kept)?;
-        Ok(answer)
+        keep(&mut self.answers, index, kept);
+        answer
     }
 
     /// The entry that an entry refers to.
     #[inline(always)]
-    pub(crate) fn link(&mut self, entry: &Entry<'i, 'a>) -> Result<Option<Entry<'i, 'a>>, Memory>
+    pub(crate) fn link(&mut self, entry: &Entry<'i, 'a>) -> Option<Entry<'i, 'a>>
         requires { AreAnswers entry.now.info self.old.answers }
-        ensures link { IfOk result (λ link. link
-            ≡ option_map (entry_with entry.now.info) (link_of entry.now.info entry.now.index)) }
-        ensures answers { IfOk result (λ _. AreAnswers entry.now.info self.new.answers) }
+        ensures link { result ≡ option_map (entry_with entry.now.info) (link_of entry.now.info entry.now.index) }
+        ensures answers { AreAnswers entry.now.info self.new.answers }
     {
         if !entry.is_long() {
-            return Ok(entry.link());
+            return entry.link();
         }
-        let answer = self.answer(entry)?;
-        Ok(answer.link)
+        let answer = self.answer(entry);
+        answer.link
     }
 
     /// The name of an entry, to which the links of an item lead whose entry is at the offset `own`. The item's own entry
     /// isn't kept.
     #[inline(always)]
-    pub(crate) fn name(
-        &mut self,
-        entry: &Entry<'i, 'a>,
-        own: u32,
-    ) -> Result<Option<SectionText<'a>>, Memory>
+    pub(crate) fn name(&mut self, entry: &Entry<'i, 'a>, own: u32) -> Option<SectionText<'a>>
         requires { AreAnswers entry.now.info self.old.answers }
-        ensures name { IfOk result (λ name. option_map section_text name
-            ≡ name_of entry.now.info entry.now.index) }
-        ensures answers { IfOk result (λ _. AreAnswers entry.now.info self.new.answers) }
+        ensures name { option_map section_text result ≡ name_of entry.now.info entry.now.index }
+        ensures answers { AreAnswers entry.now.info self.new.answers }
     {
         if entry.offset() == own || !entry.is_long() {
-            return Ok(entry.name());
+            return entry.name();
         }
-        let answer = self.answer(entry)?;
-        Ok(answer.name)
+        let answer = self.answer(entry);
+        answer.name
     }
 }

@@ -17,7 +17,7 @@ use crate::code::Segments;
 use crate::fault::LineFault;
 use crate::header::{LineHeader, read_header};
 use crate::names::NamedPaths;
-use crate::run::run;
+use crate::run::{Kept, run};
 use crate::sequence::{Collector, Sequence};
 use crate::tables::Table;
 use crate::texts::Texts;
@@ -207,7 +207,7 @@ fn run_header<'a>(
         mut program,
     } = header;
     collector.begin(offset);
-    run(&encoding, &mut program, collector)?;
+    run::<Kept>(&encoding, &mut program, collector)?;
     Ok(Table {
         offset,
         directories,

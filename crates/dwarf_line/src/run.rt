@@ -15,11 +15,14 @@ use address_ranges::RangeTable;
 use prof_bytes::{Fail, Memory, Reader};
 use std::alloc::Global;
 
-/// The run that keeps rows.
-struct Kept;
+/// The runs that keep the rows of all tables, and those of one table at a time.
+pub(crate) struct Kept;
 
-/// Runs a program to its end, and collects its sequences that count.
-pub(crate) fn run(
+struct Together;
+
+/// Runs a program to its end, and collects its sequences that count. `R` is the run: each has a copy of this code, so
+/// that it is compiled into its one caller.
+pub(crate) fn run<R>(
     encoding: &LineEncoding<'_>,
     program: &mut Reader<'_, LineFault>,
     collector: &mut Collector<'_>,
@@ -35,7 +38,7 @@ pub(crate) fn run(
         if program.left() == 0 {
             return Ok(());
         }
-        let effect = read_opcode::<Kept>(encoding, registers, program)?;
+        let effect = read_opcode::<R>(encoding, registers, program)?;
         collector.add_some(effect.row)?;
         registers = effect.registers;
     }
@@ -57,7 +60,7 @@ pub(crate) fn sequences_of(
 {
     let mut collector = Collector::new(alloc, segments);
     collector.begin(table);
-    match run(encoding, program, &mut collector) {
+    match run::<Together>(encoding, program, &mut collector) {
         Ok(()) => Ok(RangeTable::of(alloc, collector.finish())?),
         Err(Fail::Fault(_)) => Ok(RangeTable::of(alloc, Vec::new(alloc))?),
         Err(Fail::Memory(memory)) => Err(memory),

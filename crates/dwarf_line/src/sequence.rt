@@ -97,7 +97,8 @@ impl<'s> Collector<'s> {
         self.rows = Vec::new(self.alloc);
     }
 
-    /// Adds a row to the open sequence, or closes it and keeps it if it counts.
+    /// Adds a row to the open sequence, or closes it and keeps it if it counts. Each run has a copy of this code.
+    #[inline(always)]
     fn add(&mut self, row: LineRow) -> Result<(), Memory>
         ensures { IfOk result (λ _. self.new ≡ with_row self.old row) }
     {
@@ -117,7 +118,8 @@ impl<'s> Collector<'s> {
         Ok(())
     }
 
-    /// Adds a row where there is one.
+    /// Adds a row where there is one. Each run has a copy of this code.
+    #[inline(always)]
     pub(crate) fn add_some(&mut self, row: Option<LineRow>) -> Result<(), Memory>
         ensures { IfOk result (λ _. self.new ≡ with_effect self.old row) }
     {

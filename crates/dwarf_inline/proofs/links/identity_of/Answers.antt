@@ -18,34 +18,34 @@ link-requires-in-loop c = answers_of c.args.start.info c.loop.last.info c.loop.l
 
 pub loop-preserved : goal.loop-preserved
 loop-preserved c = record {
-  linked = entry_follows c.args.start c.loop.last c.in-Some-2.next c.loop.counter c.loop-test.true (sym c.in-Some-2.is ∙ c.in_ok-next.ensures.link) c.loop.invariant.linked;
-  answers = answers_of c.loop.last.info c.args.start.info c.link-in-loop.new.self.answers (sym c.loop.invariant.linked.same) c.in_ok-next.ensures.answers;
+  linked = entry_follows c.args.start c.loop.last c.in-Some-link.next c.loop.counter c.loop-test.true (sym c.in-Some-link.is ∙ c.link-in-loop.ensures.link) c.loop.invariant.linked;
+  answers = answers_of c.loop.last.info c.args.start.info c.link-in-loop.new.self.answers (sym c.loop.invariant.linked.same) c.link-in-loop.ensures.answers;
 }
 
 pub returns-in-None-clause-identity : goal.returns-in-None-clause-identity
 returns-in-None-clause-identity c =
-    entry_arrived c.args.start c.loop.last c.loop.counter (sym c.in-None.is ∙ c.in_ok-next.ensures.link) c.loop.invariant.linked
+    entry_arrived c.args.start c.loop.last c.loop.counter (sym c.in-None.is ∙ c.link-in-loop.ensures.link) c.loop.invariant.linked
 
 pub returns-in-None-clause-answers : goal.returns-in-None-clause-answers
 returns-in-None-clause-answers c =
-    answers_of c.loop.last.info c.args.start.info c.link-in-loop.new.self.answers (sym c.loop.invariant.linked.same) c.in_ok-next.ensures.answers
+    answers_of c.loop.last.info c.args.start.info c.link-in-loop.new.self.answers (sym c.loop.invariant.linked.same) c.link-in-loop.ensures.answers
 
 pub link-requires-2 : goal.link-requires-2
 link-requires-2 c = answers_of c.args.start.info c.loop.last.info c.loop.long.answers c.loop.invariant.linked.same c.loop.invariant.answers
 
-pub returns-in-Some-3-clause-identity : goal.returns-in-Some-3-clause-identity
-returns-in-Some-3-clause-identity c =
+pub returns-in-Some-link-2-clause-identity : goal.returns-in-Some-link-2-clause-identity
+returns-in-Some-link-2-clause-identity c =
     let past = c.loop-test.false in
-    entry_too_far c.args.start c.loop.last c.in-Some-3.field-0 c.loop.counter (omega arith) (sym c.in-Some-3.is ∙ c.in_ok-link.ensures.link) c.loop.invariant.linked
+    entry_too_far c.args.start c.loop.last c.in-Some-link-2.field-0 c.loop.counter (omega arith) (sym c.in-Some-link-2.is ∙ c.link-2.ensures.link) c.loop.invariant.linked
 
-pub returns-in-Some-3-clause-answers : goal.returns-in-Some-3-clause-answers
-returns-in-Some-3-clause-answers c =
-    answers_of c.loop.last.info c.args.start.info c.link-2.new.self.answers (sym c.loop.invariant.linked.same) c.in_ok-link.ensures.answers
+pub returns-in-Some-link-2-clause-answers : goal.returns-in-Some-link-2-clause-answers
+returns-in-Some-link-2-clause-answers c =
+    answers_of c.loop.last.info c.args.start.info c.link-2.new.self.answers (sym c.loop.invariant.linked.same) c.link-2.ensures.answers
 
-pub returns-in-None-2-clause-identity : goal.returns-in-None-2-clause-identity
-returns-in-None-2-clause-identity c =
-    entry_arrived c.args.start c.loop.last c.loop.counter (sym c.in-None-2.is ∙ c.in_ok-link.ensures.link) c.loop.invariant.linked
+pub returns-in-None-link-clause-identity : goal.returns-in-None-link-clause-identity
+returns-in-None-link-clause-identity c =
+    entry_arrived c.args.start c.loop.last c.loop.counter (sym c.in-None-link.is ∙ c.link-2.ensures.link) c.loop.invariant.linked
 
-pub returns-in-None-2-clause-answers : goal.returns-in-None-2-clause-answers
-returns-in-None-2-clause-answers c =
-    answers_of c.loop.last.info c.args.start.info c.link-2.new.self.answers (sym c.loop.invariant.linked.same) c.in_ok-link.ensures.answers
+pub returns-in-None-link-clause-answers : goal.returns-in-None-link-clause-answers
+returns-in-None-link-clause-answers c =
+    answers_of c.loop.last.info c.args.start.info c.link-2.new.self.answers (sym c.loop.invariant.linked.same) c.link-2.ensures.answers

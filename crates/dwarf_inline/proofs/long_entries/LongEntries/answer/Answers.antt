@@ -3,7 +3,7 @@ use Rattle.std.specs.Ordering.{nat_cmp}
 use Rattle.std.specs.BTreeMap.{get}
 use Rattle.std.proofs.lemmas.Grind.{common_steps}
 use Rattle.dwarf_inline.specs.private.Answers.{IsAnswer}
-use Rattle.dwarf_inline.proofs.KeptAnswers.{asked, one_kept, same_answer}
+use Rattle.dwarf_inline.proofs.KeptAnswers.{asked, same_answer}
 use Rattle.dwarf_inline.proofs.long_entries.LongEntries.answer.Goals as goal
 
 pub returns-in-Some-clause-is : goal.returns-in-Some-clause-is
@@ -14,7 +14,6 @@ returns-in-Some-clause-is c =
 
 pub returns-clause-answers : goal.returns-clause-answers
 returns-clause-answers c =
-    one_kept c.args.entry.now.info c.args.self.now.answers c.add_answer.new.answers c.index-index.result c.copied-kept.result
-    c.in_ok-add_answer.ensures c.requires
+    c.keep.ensures c.args.entry.now.info c.requires
     (same_answer c.args.entry.now.info c.index-index.result c.answer_of-answer.result c.copied-kept.result c.copied-kept.ensures
     (subst (λ (n : ℕ). IsAnswer c.args.entry.now.info n c.answer_of-answer.result) (sym c.index-index.ensures) c.answer_of-answer.ensures))
