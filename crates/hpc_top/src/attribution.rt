@@ -14,7 +14,7 @@ use elf_image::Image;
 use merge_crew::Crews;
 use prof_bytes::Fail;
 use program_run::scopes_of;
-use run_profile::{Merge, attribute_scopes};
+use run_profile::{Merge, attribute_scopes, lines_of_samples};
 use std::alloc::Global;
 use std::thread::Threads;
 use thread_cct::Ccts;
@@ -37,5 +37,6 @@ pub fn attribute_code<R: Threads + Sync, C: Crews>(
         (attributed_code image.now merge.now.events.now merge.now.runs.now ccts) }
 {
     let (lines, structure) = scopes_of(alloc, image)?;
+    let lines = lines_of_samples(alloc, lines, &ccts)?;
     attribute_scopes(rt, alloc, merge, image, &lines, &structure, ccts)
 }

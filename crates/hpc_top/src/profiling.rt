@@ -20,7 +20,7 @@ use elf_image::Image;
 use merge_crew::Crews;
 use prof_bytes::Fail;
 use program_run::{CountedRun, count_run, frames_of, program_of, schedule_of, scopes_of};
-use run_profile::{Merge, Merged, merge_samples};
+use run_profile::{Merge, Merged, lines_of_samples, merge_samples};
 use rv_run::Schedule;
 use scope_find::Finder;
 use std::alloc::Global;
@@ -70,7 +70,7 @@ fn merge_scopes<'a, R: Threads + Sync, C: Crews>(
     job: &Job<'_>,
     crews: &C,
     image: &Image<'_>,
-    lines: &LineTable<'_>,
+    lines: LineTable<'_>,
     structure: &Structure<'_>,
     run: CountedRun<'a>,
 ) -> Result<ProfiledRun<'a>, Fail<InputFault>>
@@ -78,9 +78,10 @@ fn merge_scopes<'a, R: Threads + Sync, C: Crews>(
     requires counted { (m : Measured) × IsCount job.now.periods.now m run }
     ensures { (m : Measured) → IsCount job.now.periods.now m run.entry
         → Profiles (merging (C.gives crews.now) (C.whole crews.now) job.now.workers) job.now.periods.now
-        result (profiled (record { structure = structure.now; lines = lines.now; image = image.now }) m) }
+        result (profiled (record { structure = structure.now; lines = lines.entry; image = image.now }) m) }
 {
-    let finder = Finder::of(alloc, structure, lines, image)?;
+    let lines = lines_of_samples(alloc, lines, &run.ccts)?;
+    let finder = Finder::of(alloc, structure, &lines, image)?;
     let runs = [run.harts];
     let merge = Merge {
         crews,
@@ -100,14 +101,14 @@ fn profile_program<'a, R: Threads + Sync, C: Crews>(
     schedule: Schedule,
     image: &Image<'a>,
     table: &FrameTable,
-    lines: &LineTable<'_>,
+    lines: LineTable<'_>,
     structure: &Structure<'_>,
 ) -> Result<ProfiledRun<'a>, Fail<InputFault>>
     requires job { IsJob job.now }
     ensures { Profiles (merging (C.gives crews.now) (C.whole crews.now) job.now.workers) job.now.periods.now
         result
         (profiled_program image.now (descriptions table.now)
-        (record { structure = structure.now; lines = lines.now; image = image.now }) schedule job.now.input.now
+        (record { structure = structure.now; lines = lines.entry; image = image.now }) schedule job.now.input.now
         job.now.periods.now) }
 {
     let counted = count_run(
@@ -173,6 +174,6 @@ pub fn profile_run<'a, R: Threads + Sync, C: Crews>(
         structure,
     } = read;
     profile_program(
-        rt, alloc, job, crews, schedule, &image, &table, &lines, &structure,
+        rt, alloc, job, crews, schedule, &image, &table, lines, &structure,
     )
 }
