@@ -5,6 +5,8 @@
 //! `hpc_top`, `prof_devices` and `hash_key`.
 #![tactic(auto)]
 
+ghost use Rattle.std.specs.Prelude.{◌≤◌, IfOk, length};
+
 use hash_key::HashKey;
 use hpc_top::{Status, hpc_main, out_of_memory};
 use prof_bytes::{Memory, Text};
@@ -18,16 +20,37 @@ use std::thread::Threads;
 /// The most bytes that Linux takes as one word of a command.
 const MOST_BYTES: usize = 131_072;
 
+/// The bytes into which a word is read first: more than most words have.
+const USUAL_BYTES: usize = 4_096;
+
+/// Reads a word of the command into these bytes, of which there are more where it has more than most words; how many
+/// it has.
+fn read_word<R: Env>(
+    rt: &R,
+    number: usize,
+    word: &mut Vec<u8>,
+) -> Result<Result<usize, FillError>, Memory>
+    ensures { IfOk result (λ read. IfOk read (λ count. count ≤ length word.new.items)) }
+{
+    match rt.arg(number, word.as_mut_slice()) {
+        Err(FillError::TooLong) => {}
+        read => return Ok(read),
+    }
+    // room: `MOST_BYTES`, the most bytes of one word
+    word.resize(MOST_BYTES, 0u8)?;
+    Ok(rt.arg(number, word.as_mut_slice()))
+}
+
 /// The words after the program's name, byte for byte: a file's name need not be text. Where one is longer than a
 /// word of a command can be there are none, which is an invalid command line.
 fn words_of<R: Env + AllocGlobal>(rt: &R) -> Result<Vec<Text>, Memory> {
     let mut word = Vec::new(rt.alloc());
-    // room: `MOST_BYTES`, the bytes of one word
-    word.resize(MOST_BYTES, 0u8)?;
+    // room: `USUAL_BYTES`, those of most words
+    word.resize(USUAL_BYTES, 0u8)?;
     let mut words = Vec::new(rt.alloc());
     for number in 1..usize::MAX {
-        match rt.arg(number, word.as_mut_slice()) {
-            Ok(length) => words.push(Text::of(rt.alloc(), &word[..length])?)?,
+        match read_word(rt, number, &mut word)? {
+            Ok(count) => words.push(Text::of(rt.alloc(), &word[..count])?)?,
             Err(FillError::NotPresent) => break,
             Err(FillError::TooLong) => return Ok(Vec::new(rt.alloc())),
         }
