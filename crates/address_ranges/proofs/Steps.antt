@@ -33,10 +33,10 @@ start_at low (suc m) d (s ∷ steps) up lt =
     let y : low ≤ s.start = up.0 in
     omega arith
 
-test_true : (a b : ℕ) → a < b → ltb a b ≡ true
+pub test_true : (a b : ℕ) → a < b → ltb a b ≡ true
 test_true a b lt = grind (arith, nat_tests)
 
-test_false : (a b : ℕ) → b ≤ a → ltb a b ≡ false
+pub test_false : (a b : ℕ) → b ≤ a → ltb a b ≡ false
 test_false a b le = grind (arith, nat_tests)
 
 -- an address below a step is not looked for after it

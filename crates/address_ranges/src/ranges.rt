@@ -1,10 +1,11 @@
 //! Ranges, and tables of steps over them.
-ghost use Rattle.std.specs.Prelude.{◌≡◌, ◌≢◌, ℕ, MatchBool, ◌+◌, ◌<◌, ◌^◌, IfOk, Some, None, length, map, find};
+ghost use Rattle.std.specs.Prelude.{◌≡◌, ◌≢◌, ℕ, MatchBool, ◌+◌, ◌<◌, ◌^◌, IfOk, IfSome, Some, None, length, map, find};
 ghost use Rattle.std.specs.Prelude.{slice_get, if◌then◌else◌};
 ghost use Rattle.std.specs.List.{position_from};
 ghost use Rattle.std.specs.Option.{option_and_then, option_copied, option_or};
 ghost use Rattle.address_ranges.specs.Ranges.{holds, IsFirst, IsNotFirst};
 ghost use Rattle.address_ranges.specs.private.Steps.{holder_from, IsAscending, AllHeld, SomeElse, next_start, past};
+ghost use Rattle.address_ranges.specs.private.Steps.{with_start};
 
 use std::alloc::{AllocError, Global};
 use std::marker::Model;
@@ -161,8 +162,94 @@ fn one_range(alloc: Global, range: AddressRange, holder: usize) -> Result<Vec<St
     Ok(steps)
 }
 
-/// The table of the elements' ranges, the first of which has this number. Each half of the list is a table
-/// of its own, so the work grows as n log n.
+/// Whether no range is empty or begins before the one before it ends.
+fn are_ascending<T: HasRange>(items: &[T]) -> bool {
+    let mut end = 0;
+    for item in items {
+        let range = item.range();
+        let start = u64::from(range.start);
+        if start < end || range.end <= start {
+            return false;
+        }
+        end = range.end;
+    }
+    true
+}
+
+/// The steps with that where a range begins, after that at the end of the ranges before it where no range holds what lies
+/// between.
+fn with_start(
+    steps: Vec<Step>,
+    end: u64,
+    start: u64,
+    holder: usize,
+) -> Result<Vec<Step>, AllocError>
+    ensures { IfOk result (λ more. more.items ≡ with_start steps.items end start holder) }
+{
+    let mut steps = steps;
+    if end < start {
+        steps.push(Step {
+            start: end,
+            holder: None,
+        })?;
+    }
+    let holder = Some(holder);
+    steps.push(Step { start, holder })?;
+    Ok(steps)
+}
+
+/// The table of ranges in ascending order, the first of which has this number; `None` where one is empty or begins
+/// before the one before it ends. It takes one step or two for each range.
+fn ascending_steps<T: HasRange>(
+    alloc: Global,
+    items: &[T],
+    number: usize,
+) -> Result<Option<Vec<Step>>, AllocError>
+    requires { number + length items.now < 2 ^ 64 }
+    ensures ascending { IfOk result (λ found. IfSome found (λ steps. IsAscending 0 steps.items)) }
+    ensures holders { IfOk result (λ found. IfSome found (λ steps. (address : ℕ)
+        → holder_from None steps.items address ≡ position_from (holds address) number (map T.range_of items.now))) }
+{
+    let most = items.len().saturating_add(2);
+    // room: `most`, what ranges take that adjoin
+    let mut steps = Vec::with_capacity(alloc, most)?;
+    let mut end = 0;
+    for index in 0..items.len() {
+        let range = items[index].range();
+        let start = u64::from(range.start);
+        if start < end || range.end <= start {
+            return Ok(None);
+        }
+        steps = with_start(steps, end, start, number + index)?;
+        end = range.end;
+    }
+    steps.push(Step {
+        start: end,
+        holder: None,
+    })?;
+    Ok(Some(steps))
+}
+
+/// The table of a list of ranges, the first of which has this number, where they are in ascending order.
+fn known_steps<T: HasRange>(
+    alloc: Global,
+    items: &[T],
+    number: usize,
+) -> Result<Option<Vec<Step>>, AllocError>
+    requires { number + length items.now < 2 ^ 64 }
+    ensures ascending { IfOk result (λ found. IfSome found (λ steps. IsAscending 0 steps.items)) }
+    ensures holders { IfOk result (λ found. IfSome found (λ steps. (address : ℕ)
+        → holder_from None steps.items address ≡ position_from (holds address) number (map T.range_of items.now))) }
+{
+    if are_ascending(items) {
+        ascending_steps(alloc, items, number)
+    } else {
+        Ok(None)
+    }
+}
+
+/// The table of the elements' ranges, the first of which has this number. Where they are not in ascending order, each
+/// half of the list is a table of its own, so the work grows as n log n.
 fn steps_of<T: HasRange>(alloc: Global, items: &[T], number: usize) -> Result<Vec<Step>, AllocError>
     requires { number + length items.now < 2 ^ 64 }
     ensures ascending { IfOk result (λ steps. IsAscending 0 steps.items) }
@@ -173,6 +260,9 @@ fn steps_of<T: HasRange>(alloc: Global, items: &[T], number: usize) -> Result<Ve
         [] => Ok(Vec::new(alloc)),
         [item] => one_range(alloc, item.range(), number),
         _ => {
+            if let Some(steps) = known_steps(alloc, items, number)? {
+                return Ok(steps);
+            }
             let (front, back) = items.split_at(items.len() / 2);
             let upper = steps_of(alloc, front, number)?;
             let lower = steps_of(alloc, back, number + front.len())?;

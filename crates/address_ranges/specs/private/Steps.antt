@@ -1,5 +1,5 @@
 -- Steps: a table that says for each address who holds it.
-use Rattle.std.specs.Prelude.{◌≡◌, ◌≢◌, ℕ, ◌+◌, ◌≤◌, ◌<◌, ◌==◌, nat_lt, min, List, [], ◌∷◌, Option, Some, None}
+use Rattle.std.specs.Prelude.{◌≡◌, ◌≢◌, ℕ, ◌+◌, ◌≤◌, ◌<◌, ◌==◌, nat_lt, min, List, [], ◌∷◌, ◌++◌, Option, Some, None}
 use Rattle.std.specs.Prelude.{if◌then◌else◌}
 use Rattle.std.specs.List.{position_from}
 use Rattle.address_ranges.specs.declared.ranges.AddressRange.{AddressRange}
@@ -42,3 +42,9 @@ next_start (a ∷ rest) (b ∷ others) = Some (min a.start b.start)
 abbrev pub past : ℕ → Option ℕ → List Step → Option ℕ × List Step
 past start holder [] = (holder, [])
 past start holder (s ∷ steps) = if s.start == start then (s.holder, steps) else (holder, s ∷ steps)
+
+-- a step where a range begins, after one where the ranges before it end, if they end below
+abbrev pub with_start : List Step → ℕ → ℕ → ℕ → List Step
+with_start steps end start holder =
+    (if nat_lt end start then steps ++ record { start = end; holder = None } ∷ [] else steps)
+    ++ record { start = start; holder = Some holder } ∷ []
