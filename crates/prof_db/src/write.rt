@@ -9,12 +9,13 @@ ghost use Rattle.prof_db.specs.Spelling.{text_bytes, procedure_bytes, file_name_
 ghost use Rattle.prof_bytes.specs.Number.{word, words};
 ghost use Rattle.prof_db.specs.Spelling.{line_numbers, scope_numbers, proc_index, file_index};
 ghost use Rattle.prof_db.specs.Spelling.{profile_entry_bytes, context_entry_bytes, with_count, shared_bytes};
-ghost use Rattle.prof_db.specs.Spelling.{database_spelling, events_spelling};
+ghost use Rattle.prof_db.specs.Spelling.{database_spelling, events_spelling, long};
 
 use crate::head::magic_of;
 use crate::raw::Version;
 use crate::write_head::put_head;
-use prof_bytes::{Memory, Text, put_u32, put_u64, put_words};
+use byteorder::{ByteOrder, LittleEndian};
+use prof_bytes::{Memory, Text, put_u32, put_words};
 use scope_types::{LineId, ProcId, RootKind, Scope};
 use std::alloc::Global;
 use tree_types::{
@@ -192,22 +193,28 @@ pub(crate) fn kind_word(kind: Kind) -> u32
     }
 }
 
+/// Appends the sixteen bytes of an entry of a plane.
+fn put_entry(out: &mut Vec<u8>, first: u32, second: u32, value: u64) -> Result<(), Memory>
+    ensures { OnOk result (out.new.items ≡ out.old.items ++ word first ++ word second ++ long value) }
+{
+    let mut bytes = [0; 16];
+    LittleEndian::write_u32(&mut bytes[..4], first);
+    LittleEndian::write_u32(&mut bytes[4..8], second);
+    LittleEndian::write_u64(&mut bytes[8..], value);
+    out.extend_from_slice(&bytes)?;
+    Ok(())
+}
+
 fn put_profile_entry(out: &mut Vec<u8>, e: &ProfileEntry) -> Result<(), Memory>
     ensures { OnOk result (out.new.items ≡ out.old.items ++ profile_entry_bytes e.now) }
 {
-    put_u32(out, e.node)?;
-    put_u32(out, kind_word(e.kind))?;
-    put_u64(out, e.value)?;
-    Ok(())
+    put_entry(out, e.node, kind_word(e.kind), e.value)
 }
 
 fn put_context_entry(out: &mut Vec<u8>, e: &ContextEntry) -> Result<(), Memory>
     ensures { OnOk result (out.new.items ≡ out.old.items ++ context_entry_bytes e.now) }
 {
-    put_u32(out, kind_word(e.kind))?;
-    put_u32(out, e.column)?;
-    put_u64(out, e.value)?;
-    Ok(())
+    put_entry(out, kind_word(e.kind), e.column, e.value)
 }
 
 fn put_profile_entries(out: &mut Vec<u8>, entries: &[ProfileEntry]) -> Result<(), Memory>
