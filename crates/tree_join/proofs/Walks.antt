@@ -8,14 +8,14 @@ use Rattle.scope_types.specs.Limits.{most_scopes_in_all}
 use Rattle.tree_types.specs.declared.content.Node.{Node}
 use Rattle.path_trie.proofs.Places.{last_cases}
 use Rattle.tree_join.specs.declared.walker.Walker.{Walker}
-use Rattle.tree_join.specs.private.Walk.{node_before, earlier_of, walked_entries, head_node, Advances, FirstBut, IsWalker, Leads, NotAfter, PassUpTo, Walking}
+use Rattle.tree_join.specs.private.Walk.{node_before, earlier_of, walked_entries, head_node, Advances, EndsBy, FirstBut, IsWalker, Leads, NotAfter, PassUpTo, Walking}
 use Rattle.tree_join.proofs.Heads.{before_itself, before_last, none_earlier}
 use Rattle.tree_join.proofs.Several.{entries_in as entries_of, parts_of}
 use Rattle.tree_join.proofs.Steps.{leads_other, moved, order_few}
 
 -- ---- the first of the nodes that are next
 
-module _ (walkers : List Walker) (left_out k : ℕ) (w : Walker) (lt : k < length walkers) (is : w ≡ get_or walkers k w) where
+module _ (walkers : List Walker) (left_out k : ℕ) (w : Walker) (lt : k < length walkers) (apart_k : k ≢ left_out) (is : w ≡ get_or walkers k w) where
   at_k : (d : Walker) → get_or walkers k d ≡ w
   at_k d = get_or_default walkers k d w lt ∙ sym is
 
@@ -42,12 +42,12 @@ module _ (walkers : List Walker) (left_out k : ℕ) (w : Walker) (lt : k < lengt
 
   first_by : (first : Option (ℕ × Node)) (o : Option Node) → head_node w ≡ o → FirstBut walkers left_out k first → FirstBut walkers left_out (k + 1) (earlier_of first k o)
   first_by None None e f = each_more (λ v. head_node v ≡ None) f e
-  first_by (Some x) None e f = (f.0, f.1, each_more (NotAfter x.1) f.2 (none_after x.1 w e))
-  first_by None (Some n) e f = (lt, λ d. ap head_node (at_k d) ∙ e, each_more (NotAfter n) (λ i d i_lt apart. none_after n (get_or walkers i d) (f i d i_lt apart)) (some_after n n e (before_itself n)))
+  first_by (Some x) None e f = (f.0, f.1, f.2, each_more (NotAfter x.1) f.3 (none_after x.1 w e))
+  first_by None (Some n) e f = (lt, apart_k, λ d. ap head_node (at_k d) ∙ e, each_more (NotAfter n) (λ i d i_lt apart. none_after n (get_or walkers i d) (f i d i_lt apart)) (some_after n n e (before_itself n)))
   first_by (Some x) (Some n) e f =
       elim (node_before n x.1) as (λ b. node_before n x.1 ≡ b → FirstBut walkers left_out (k + 1) (cond b (Some (k, n)) (Some x))) [
-        | true ↦ λ b. (lt, λ d. ap head_node (at_k d) ∙ e, each_more (NotAfter n) (λ i d i_lt apart. after_earlier n x.1 b (get_or walkers i d) (f.2 i d i_lt apart)) (some_after n n e (before_itself n)))
-        | false ↦ λ b. (f.0, f.1, each_more (NotAfter x.1) f.2 (some_after x.1 n e b))
+        | true ↦ λ b. (lt, apart_k, λ d. ap head_node (at_k d) ∙ e, each_more (NotAfter n) (λ i d i_lt apart. after_earlier n x.1 b (get_or walkers i d) (f.3 i d i_lt apart)) (some_after n n e (before_itself n)))
+        | false ↦ λ b. (f.0, f.1, f.2, each_more (NotAfter x.1) f.3 (some_after x.1 n e b))
       ] refl
 
   pub first_more : (first new : Option (ℕ × Node)) (head : Option Node) → FirstBut walkers left_out k first → head ≡ head_node w → new ≡ earlier_of first k head → FirstBut walkers left_out (k + 1) new
@@ -62,7 +62,7 @@ first_skip walkers left_out k first new f is same = subst (FirstBut walkers left
 
     skip : (first : Option (ℕ × Node)) → FirstBut walkers left_out k first → FirstBut walkers left_out (k + 1) first
     skip None f = but (λ v. head_node v ≡ None) f
-    skip (Some x) f = (f.0, f.1, but (NotAfter x.1) f.2)
+    skip (Some x) f = (f.0, f.1, f.2, but (NotAfter x.1) f.3)
 
 -- ---- nodes put in order
 
@@ -120,7 +120,35 @@ run_leads at first walkers start order limit node run but before i d i_lt apart 
 
     by_limit : (limit : Option (ℕ × Node)) → FirstBut first at (length first) limit → IfSome limit (λ other. node_before node other.1 ≡ true) → i < length first → Leads node (get_or first i d)
     by_limit None but before lt = subst (λ (o : Option Node). IfSome o (λ h. node_before node h ≡ true)) (sym (but i d lt apart)) tt
-    by_limit (Some x) but before lt = leads_all x.1 before (head_node (get_or first i d)) (but.2 i d lt apart)
+    by_limit (Some x) but before lt = leads_all x.1 before (head_node (get_or first i d)) (but.3 i d lt apart)
+
+-- where nothing that is next in the walk itself comes before the first of the others' nodes, that one is the first of all
+pub run_ended : (at : ℕ) (first walkers : List Walker) (start order : List Node) (limit : Option (ℕ × Node)) → Running at first start walkers order → FirstBut first at (length first) limit
+    → (w : Walker) → at < length first → EndsBy limit (get_or walkers at w) → FirstBut walkers (length walkers) (length walkers) limit
+run_ended at first walkers start order limit run but w at_lt end =
+    by_limit limit but (λ d. subst (EndsBy limit) (get_or_default walkers at w d (let long = run.long in omega arith)) end)
+  where
+    same_long : length walkers ≡ length first
+    same_long = run.long
+
+    by_limit : (limit : Option (ℕ × Node)) → FirstBut first at (length first) limit → ((d : Walker) → EndsBy limit (get_or walkers at d)) → FirstBut walkers (length walkers) (length walkers) limit
+    by_limit None but ends = λ i d i_lt apart.
+        elim (cases_eq i at) [
+          | inl same ↦ subst (λ (j : ℕ). head_node (get_or walkers j d) ≡ None) (sym same) (ends d)
+          | inr other ↦ ap head_node (run.others i d other) ∙ but i d (let long = same_long in omega arith) other
+        ]
+    by_limit (Some x) but ends =
+        let long = same_long in
+        let lt = but.0 in (
+          omega arith,
+          λ e. absurd (omega arith),
+          λ d. ap head_node (run.others x.0 d but.1) ∙ but.2 d,
+          λ i d i_lt apart.
+              elim (cases_eq i at) [
+                | inl same ↦ subst (λ (j : ℕ). NotAfter x.1 (get_or walkers j d)) (sym same) (ends d)
+                | inr other ↦ subst (NotAfter x.1) (sym (run.others i d other)) (but.3 i d (omega arith) other)
+              ],
+        )
 
 -- fewer nodes are left
 pub fewer_left : (parts : List (List Entry)) (new : List Walker) (order more last : List Node) (node : Node) → Walking parts new last → more ≡ order ++ node ∷ [] → length more ≤ length last → most_scopes_in_all - length last < most_scopes_in_all - length order

@@ -2,7 +2,7 @@
 ghost use Rattle.std.specs.Prelude.{◌≡◌, ◌≢◌, ℕ, ◌<◌, ◌≤◌, ◌∷◌, ◌++◌, [], length, map, slice_index_or, All};
 ghost use Rattle.std.specs.Prelude.{IfOk, IfSome, OnOk, None, Some, true};
 ghost use Rattle.tree_join.specs.declared.walker.Walker.{Walker};
-ghost use Rattle.tree_join.specs.private.Walk.{IsReady, FirstBut, Leads, NotAfter, PassUpTo, Walking, earlier_of};
+ghost use Rattle.tree_join.specs.private.Walk.{EndsBy, IsReady, FirstBut, Leads, NotAfter, PassUpTo, Walking, earlier_of};
 ghost use Rattle.tree_join.specs.private.Walk.{walked_entries, head_node, node_before};
 
 use crate::walker::{Walker, is_before};
@@ -93,8 +93,9 @@ fn put_own(
 /// The node that is next in a walk, if it comes before another one.
 fn leading(walker: &Walker, limit: Option<(usize, Node)>) -> Option<Node>
     requires { IsReady walker.now }
-    ensures { IfSome result (λ node. (head_node walker.now ≡ Some node)
+    ensures leads { IfSome result (λ node. (head_node walker.now ≡ Some node)
         × IfSome limit (λ other. node_before node other.1 ≡ true)) }
+    ensures ends { result ≡ None → EndsBy limit walker.now }
 {
     let node = walker.head()?;
     match limit {
@@ -103,18 +104,24 @@ fn leading(walker: &Walker, limit: Option<(usize, Node)>) -> Option<Node>
     }
 }
 
-/// Puts nodes of one walk in order, as long as they come before what is next in the others.
-fn put_run(walkers: &mut [Walker], at: usize, order: &mut Vec<Node>) -> Result<(), Memory>
+/// Puts nodes of one walk in order, as long as they come before what is next in the others; the first of the nodes that
+/// are next then, with the index of its walk.
+fn put_run(
+    walkers: &mut [Walker],
+    at: usize,
+    order: &mut Vec<Node>,
+) -> Result<Option<(usize, Node)>, Memory>
     requires walking { Walking (map walked_entries walkers.old) walkers.old order.old.items }
     requires at { at < length walkers.old }
     ensures walking { OnOk result (Walking (map walked_entries walkers.old) walkers.new order.new.items) }
     ensures longer { OnOk result (length order.old.items ≤ length order.new.items) }
+    ensures next { IfOk result (FirstBut walkers.new (length walkers.new) (length walkers.new)) }
 {
     let limit = first_but(walkers, at);
     while let Some(node) = leading(&walkers[at], limit) {
         put_own(walkers, at, node, order)?;
     }
-    Ok(())
+    Ok(limit)
 }
 
 /// Puts all nodes in preorder, siblings by their scopes, those of one path once.
@@ -124,9 +131,10 @@ pub fn walk(alloc: Global, walkers: &mut [Walker]) -> Result<Vec<Node>, Memory>
     ensures ended { OnOk result (All (λ w. head_node w ≡ None) walkers.new) }
 {
     let mut order = Vec::new(alloc);
-    while let Some((at, node)) = first_but(walkers, walkers.len()) {
+    let mut first = first_but(walkers, walkers.len());
+    while let Some((at, node)) = first {
         put_first(walkers, node, &mut order)?;
-        put_run(walkers, at, &mut order)?;
+        first = put_run(walkers, at, &mut order)?;
     }
     Ok(order)
 }

@@ -167,6 +167,11 @@ Leads node w = IfSome (head_node w) (λ h. node_before node h ≡ true)
 abbrev pub NotAfter : Node → Walker → Type 0
 NotAfter node w = IfSome (head_node w) (λ h. node_before h node ≡ false)
 
+-- nothing that is next in a walk comes before a limit; without a limit nothing is next
+abbrev pub EndsBy : Option (ℕ × Node) → Walker → Type 0
+EndsBy None w = head_node w ≡ None
+EndsBy (Some limit) w = NotAfter limit.1 w
+
 -- the first of two nodes that are next
 abbrev pub earlier_of : Option (ℕ × Node) → ℕ → Option Node → Option (ℕ × Node)
 earlier_of first at None = first
@@ -177,6 +182,6 @@ earlier_of (Some first) at (Some node) = if node_before node first.1 then Some (
 abbrev pub FirstBut : List Walker → ℕ → ℕ → Option (ℕ × Node) → Type 0
 FirstBut walkers left_out k None = (i : ℕ) (d : Walker) → i < k → i ≢ left_out
     → head_node (slice_index_or walkers i d) ≡ None
-FirstBut walkers left_out k (Some first) = (first.0 < length walkers)
+FirstBut walkers left_out k (Some first) = (first.0 < length walkers) × (first.0 ≢ left_out)
     × ((d : Walker) → head_node (slice_index_or walkers first.0 d) ≡ Some first.1)
     × ((i : ℕ) (d : Walker) → i < k → i ≢ left_out → NotAfter first.1 (slice_index_or walkers i d))
