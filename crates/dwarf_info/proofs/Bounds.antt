@@ -3,6 +3,7 @@ use Rattle.std.proofs.Common.{◌≡◌, ℕ, zero, suc, ◌<◌, ◌≤◌, ◌
 use Rattle.std.specs.Prelude.{option_and_then, ◌==◌, position, nat_lt, nat_le, unwrap_or, IfSome, IfOk}
 use Rattle.std.specs.Option.{option_or}
 use Rattle.std.proofs.lemmas.Bool.{ltb-true}
+use Rattle.std.proofs.lemmas.Bool.Decides.{nat_tests}
 use Rattle.std.specs.List.{position_or_len}
 use Rattle.prof_bytes.specs.Fields.{Input}
 use Rattle.prof_bytes.specs.Reading.{left_of}
@@ -132,3 +133,9 @@ entry_below n info (Some e) lists some =
 -- an entry has fewer ranges than the section of range lists has bytes, or one
 pub ranges_bound : (info : DebugInfo) (i : ℕ) → length info.sections.rnglists < 2 ^ 31 → length (ranges_of info i) < 2 ^ 31
 ranges_bound info i lists = entry_below (2 ^ 31) info (unit_entry info i) lists (lit< tt)
+
+-- no list begins behind the section's end
+pub behind_end : (sections : Sections) (addr_base : Option ℕ) (base offset : ℕ) → length sections.rnglists < offset → ranges_at sections addr_base base offset ≡ None
+behind_end sections addr_base base offset past =
+    let test : nat_le offset (length sections.rnglists) ≡ false = grind (arith, nat_tests) in
+    rw test refl

@@ -17,3 +17,4 @@ pub mod CodeLists
 pub mod LocatedEntries
 pub mod WholeNames
 pub mod PassedBefore
+pub mod ListedRanges

@@ -1,6 +1,7 @@
 -- The address ranges of an entry. DWARF 5, sections 2.17, 7.25 and 7.28.
-use Rattle.std.specs.Prelude.{ℕ, ◌+◌, ◌==◌, List, [], ◌∷◌, ◌++◌, length, Option, Some, None, option_map}
-use Rattle.std.specs.Prelude.{option_and_then, unwrap_or, Result, Ok, Err, if◌then◌else◌}
+use Rattle.std.specs.Prelude.{ℕ, ◌+◌, ◌==◌, ◌&&◌, Bool, nat_le, nat_lt, List, [], ◌∷◌, ◌++◌, length}
+use Rattle.std.specs.Prelude.{Option, Some, None, option_map, option_and_then, unwrap_or, Result, Ok, Err}
+use Rattle.std.specs.Prelude.{if◌then◌else◌}
 use Rattle.prof_bytes.specs.Number.{word_sum}
 use Rattle.prof_bytes.specs.Fields.{Input, number_from, uleb_from}
 use Rattle.prof_bytes.specs.Reading.{left_of}
@@ -17,6 +18,9 @@ use Rattle.dwarf_info.specs.declared.constants.TheConstants.{DW_AT_low_pc, DW_AT
 use Rattle.dwarf_info.specs.declared.ranges.RangeListEntry.{RangeListEntry}
 use Rattle.dwarf_info.specs.declared.ranges.RangeListEntry.TheVariants.{BaseAddress, StartEnd, OffsetPair}
 use Rattle.dwarf_info.specs.declared.ranges.Absent.{Absent}
+use Rattle.dwarf_info.specs.declared.range_source.ListPlace.{ListPlace}
+use Rattle.dwarf_info.specs.declared.range_source.RangeSource.{RangeSource}
+use Rattle.dwarf_info.specs.declared.range_source.RangeSource.TheVariants.{Single, Listed}
 use Rattle.dwarf_info.specs.Sections.{Sections, element_in}
 use Rattle.dwarf_info.specs.Attributes.{address_value}
 use Rattle.dwarf_info.specs.Units.{DebugInfo}
@@ -169,3 +173,19 @@ entry_ranges info (Some e) = unwrap_or (attribute_ranges info e) (one_or_none (l
 -- the ranges of the entry with an index
 abbrev pub ranges_of : DebugInfo → ℕ → List (ℕ × ℕ)
 ranges_of info i = entry_ranges info (unit_entry info i)
+
+-- ---- where the ranges of an entry come from
+
+-- the ranges of a list, unless it counts as absent
+abbrev pub place_ranges : Sections → ListPlace → Option (List (ℕ × ℕ))
+place_ranges sections place = ranges_at sections place.addr_base place.base place.offset
+
+-- the ranges that come from there: one or none, or those of a list
+abbrev pub source_ranges : Sections → RangeSource → List (ℕ × ℕ)
+source_ranges sections (Single range) = one_or_none range
+source_ranges sections (Listed place) = unwrap_or (place_ranges sections place) []
+
+-- a range, from its start up to its end, holds an address and lies within another one
+abbrev pub holds_within : ℕ × ℕ → ℕ → ℕ × ℕ → Bool
+holds_within within address range =
+    nat_le within.0 range.0 && nat_le range.0 address && nat_lt address range.1 && nat_le range.1 within.1

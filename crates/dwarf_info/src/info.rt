@@ -9,7 +9,7 @@ ghost use Rattle.dwarf_info.specs.Units.{unit_of, debug_info_of};
 ghost use Rattle.dwarf_info.specs.Queries.{unit_entry, attribute_value, attribute_text, attribute_entry};
 ghost use Rattle.dwarf_info.specs.Queries.{attribute_number, entry_at, entry_with};
 ghost use Rattle.dwarf_info.specs.Subroutines.{item_entries, subroutine_entry};
-ghost use Rattle.dwarf_info.specs.Ranges.{attribute_ranges, low_pc_of, low_high_of, ranges_of};
+ghost use Rattle.dwarf_info.specs.Ranges.{attribute_ranges, low_pc_of, low_high_of, place_ranges, ranges_of};
 ghost use Rattle.dwarf_info.specs.private.Located.{IsLocated};
 
 use crate::attributes::{address_value, constant_value, text_value};
@@ -20,7 +20,8 @@ use crate::indices::referred;
 use crate::located::{Entry, Located};
 use crate::offsets::{Offsets, count_near};
 use crate::outline::{Outline, SubroutineEntry, add_outline};
-use crate::ranges::{high_pc_value, ranges_at, rnglist_offset};
+use crate::range_source::{ListPlace, list_at, place_ranges};
+use crate::ranges::{high_pc_value, rnglist_offset};
 use crate::starts::Starts;
 use crate::tables::Tables;
 use crate::unit_entries::{add_entries, declared_at, tabled_value};
@@ -68,6 +69,13 @@ impl<'a> Model for Info<'a> {
 }
 
 impl<'a> Info<'a> {
+    /// The sections of which it is read.
+    pub fn sections(&self) -> DebugParts<'a>
+        ensures { sections_of result ≡ self.now.sections }
+    {
+        self.sections
+    }
+
     /// The units that were read, in section order (DWARF 5, section 3.1).
     pub fn units(&self) -> &[Unit]
         ensures { result.now ≡ map unit_of self.now.units }
@@ -196,26 +204,39 @@ impl<'a> Info<'a> {
         constant_value(value)
     }
 
-    /// The ranges of the list that `DW_AT_ranges` gives, unless it is malformed.
+    /// The list that `DW_AT_ranges` gives.
+    pub(crate) fn list_place(&self, at: &Located<'_>) -> Option<ListPlace>
+        requires { IsLocated self.now at.now }
+        ensures { option_and_then (place_ranges self.now.sections) result
+            ≡ option_and_then (attribute_ranges self.now) (unit_entry self.now at.now.index) }
+    {
+        let value = self.value(at, DW_AT_ranges)?;
+        let offset = rnglist_offset(&self.sections, at.context.rnglists_base, value)?;
+        let base = at.context.low_pc.unwrap_or(0);
+        list_at(&self.sections, at.context.addr_base, base, offset)
+    }
+
+    /// The ranges of the list that `DW_AT_ranges` gives, and the list, unless it is malformed.
     #[tactic(auto, using(crate::proofs::Bounds::ranges_bound))]
     pub(crate) fn range_list(
         &self,
         alloc: Global,
         at: &Located<'_>,
-    ) -> Result<Option<Vec<(u32, u32)>>, Memory>
+    ) -> Result<Option<(Vec<(u32, u32)>, ListPlace)>, Memory>
         requires { IsLocated self.now at.now }
-        ensures list { IfOk result (λ o. option_map (λ v. v.items) o
+        ensures list { IfOk result (λ o. option_map (λ r. r.0.items) o
+            ≡ option_and_then (attribute_ranges self.now) (unit_entry self.now at.now.index)) }
+        ensures place { IfOk result (λ o. option_and_then (λ r. place_ranges self.now.sections r.1) o
             ≡ option_and_then (attribute_ranges self.now) (unit_entry self.now at.now.index)) }
         ensures few { length (ranges_of self.now at.now.index) < 2 ^ 31 }
     {
         // The bound rests on the sections, which the checker sees once they are named.
         let _ = &self.sections;
-        let Some(value) = self.value(at, DW_AT_ranges) else {
+        let Some(place) = self.list_place(at) else {
             return Ok(None);
         };
-        let base = at.context.low_pc.unwrap_or(0);
-        match rnglist_offset(&self.sections, at.context.rnglists_base, value) {
-            Some(offset) => ranges_at(alloc, &self.sections, at.context.addr_base, base, offset),
+        match place_ranges(alloc, &self.sections, place)? {
+            Some(pairs) => Ok(Some((pairs, place))),
             None => Ok(None),
         }
     }

@@ -1,9 +1,11 @@
 //! An entry that was located, and its attributes.
 ghost use Rattle.std.specs.Prelude.{◌≡◌, ◌<◌, ◌^◌, length, IfOk, Some, option_map, option_and_then};
-ghost use Rattle.std.specs.Prelude.{slice_get};
+ghost use Rattle.std.specs.Prelude.{slice_get, List, ℕ};
 ghost use Rattle.dwarf_forms.specs.Sections.{section_text};
 ghost use Rattle.dwarf_info.specs.Queries.{unit_entry, entry_with, name_of, link_of, call_site_of};
-ghost use Rattle.dwarf_info.specs.Ranges.{one_or_none, ranges_of};
+ghost use Rattle.dwarf_info.specs.Ranges.{place_ranges, ranges_of, source_ranges};
+ghost use Rattle.dwarf_info.specs.declared.range_source.ListPlace.{ListPlace};
+ghost use Rattle.dwarf_info.specs.declared.range_source.RangeSource.TheVariants.{Listed};
 
 use crate::constants::{
     DW_AT_abstract_origin, DW_AT_call_file, DW_AT_call_line, DW_AT_linkage_name, DW_AT_name,
@@ -12,6 +14,7 @@ use crate::constants::{
 use crate::entry::UnitContext;
 use crate::info::Info;
 use crate::pairs::Ranges;
+use crate::range_source::{ListPlace, RangeSource, one_or_none};
 use dwarf_forms::{Abbrev, SectionText};
 use prof_bytes::Memory;
 use std::alloc::Global;
@@ -168,19 +171,34 @@ impl<'i, 'a> Entry<'i, 'a> {
         ensures ranges { IfOk result (λ ranges. ranges ≡ ranges_of self.now.info self.now.index) }
         ensures few { length (ranges_of self.now.info self.now.index) < 2 ^ 31 }
     {
+        let (ranges, _) = self.ranges_with_source(alloc)?;
+        Ok(ranges)
+    }
+
+    /// The range list that `DW_AT_ranges` gives: its ranges are those of the entry, unless it is malformed.
+    pub fn list_place(&self) -> Option<ListPlace>
+        ensures { (place : ListPlace) (ranges : List (ℕ × ℕ)) → result ≡ Some place
+            → place_ranges self.now.info.sections place ≡ Some ranges
+            → ranges_of self.now.info self.now.index ≡ ranges }
+    {
+        self.info.list_place(&self.at)
+    }
+
+    /// Its address ranges, as `ranges` has them, and where they come from.
+    pub fn ranges_with_source(&self, alloc: Global) -> Result<(Ranges, RangeSource), Memory>
+        ensures ranges { IfOk result (λ r. r.0 ≡ ranges_of self.now.info self.now.index) }
+        ensures source { IfOk result (λ r. source_ranges self.now.info.sections r.1
+            ≡ ranges_of self.now.info self.now.index) }
+        ensures list { IfOk result (λ r. (place : ListPlace) → r.1 ≡ Listed place
+            → place_ranges self.now.info.sections place ≡ Some (ranges_of self.now.info self.now.index)) }
+        ensures few { length (ranges_of self.now.info self.now.index) < 2 ^ 31 }
+    {
         match self.info.range_list(alloc, &self.at)? {
-            Some(pairs) => Ok(Ranges::from_vec(pairs)),
-            None => one_or_none(alloc, self.info.low_high_pc(&self.at)),
+            Some((pairs, place)) => Ok((Ranges::from_vec(pairs), RangeSource::Listed(place))),
+            None => {
+                let range = self.info.low_high_pc(&self.at);
+                Ok((one_or_none(alloc, range)?, RangeSource::Single(range)))
+            }
         }
     }
-}
-
-fn one_or_none(alloc: Global, range: Option<(u32, u32)>) -> Result<Ranges, Memory>
-    ensures { IfOk result (λ ranges. ranges ≡ one_or_none range) }
-{
-    let mut pairs = Vec::new(alloc);
-    if let Some(range) = range {
-        pairs.push(range)?;
-    }
-    Ok(Ranges::from_vec(pairs))
 }

@@ -101,7 +101,7 @@ fn entry_of_kind(
 }
 
 #[tactic(auto, unfolding(crate::specs::Ranges::range_entry_from))]
-fn range_entry(
+pub(crate) fn range_entry(
     sections: &DebugParts<'_>,
     addr_base: Option<u32>,
     reader: &mut Reader<'_, Absent>,

@@ -22,12 +22,12 @@ some_detail d = Some d
 pub none_placed : (info : DebugInfo) (lines : Lines) (image : ProgramImage) → ArePlaced info lines image 0 [] []
 none_placed info lines image = record { long = refl; few = omega arith; are = λ k d lt. absurd (omega arith) }
 
-pub one_placed : (info : DebugInfo) (lines : Lines) (image : ProgramImage) (k first : ℕ) (item : SubroutineEntry) (places places' : List ℕ) (details details' : List Detail)
+pub one_placed : (info : DebugInfo) (lines : Lines) (image : ProgramImage) (k at first : ℕ) (item : SubroutineEntry) (places places' : List ℕ) (details details' : List Detail)
     → k < length (item_entries info) → ArePlaced info lines image k places details → first ≡ ranges_before info image (get_or (item_entries info) k nothing).0
-    → item ≡ subroutine_entry (get_or (item_entries info) k nothing) → IsPlaced places details (detail_of info lines image first item) places' details'
+    → item ≡ subroutine_entry (get_or (item_entries info) k nothing) → IsPlaced places details (detail_of info lines image at first item) places' details'
     → ArePlaced info lines image (k + 1) places' details'
 unfolding some_detail
-one_placed info lines image k first item places places' details details' within old before same new =
+one_placed info lines image k at first item places places' details details' within old before same new =
     let all : List Indexed = item_entries info in
     let count : length places ≡ k = old.long in
     record {
@@ -37,17 +37,18 @@ one_placed info lines image k first item places places' details details' within 
         | inl less ↦
             let left : get_or places' j 0 ≡ get_or places j 0 = ap (λ (ps : List ℕ). get_or ps j 0) new.pushed ∙ get_or_append_left places (new.place ∷ []) 0 j (omega arith) in
             let was = old.are j d less in
-            let there : get_or places j 0 < length details = slice_get_within details (get_or places j 0) _ was in
-            ap (slice_get details') left ∙ new.keeps (get_or places j 0) there ∙ was
+            let there : get_or places j 0 < length details = slice_get_within details (get_or places j 0) _ was.1 in (was.0, ap (slice_get details') left ∙ new.keeps (get_or places j 0) there ∙ was.1)
         | inr ge ↦
             let one : j ≡ k = omega arith in
             let last : get_or places' j 0 ≡ new.place =
             ap (λ (ps : List ℕ). get_or ps j 0) new.pushed ∙ ap (λ (n : ℕ). get_or (places ++ new.place ∷ []) n 0) (let e : j ≡ length places = omega arith in e)
             ∙ get_or-append_seam places new.place [] 0 in
-            let here : get_or all k nothing ≡ get_or all j d = any_default all k nothing d within ∙ ap (λ (n : ℕ). get_or all n d) (sym one) in
-            ap (slice_get details') last ∙ new.there
-            ∙ ap (λ (n : ℕ). some_detail (detail_of info lines image n item)) before
-            ∙ ap (λ (s : SubroutineEntry). some_detail (detail_of info lines image (ranges_before info image (get_or all k nothing).0) s)) same
-            ∙ ap (λ (e : Indexed). some_detail (detail_of info lines image (ranges_before info image e.0) (subroutine_entry e))) here
+            let here : get_or all k nothing ≡ get_or all j d = any_default all k nothing d within ∙ ap (λ (n : ℕ). get_or all n d) (sym one) in (
+              at,
+              ap (slice_get details') last ∙ new.there
+                  ∙ ap (λ (n : ℕ). some_detail (detail_of info lines image at n item)) before
+                  ∙ ap (λ (s : SubroutineEntry). some_detail (detail_of info lines image at (ranges_before info image (get_or all k nothing).0) s)) same
+                  ∙ ap (λ (e : Indexed). some_detail (detail_of info lines image at (ranges_before info image e.0) (subroutine_entry e))) here,
+            )
       ];
     }

@@ -4,6 +4,7 @@ pub mod Linked
 pub mod Items
 pub mod KeptEntries
 pub mod DetailPlaces
+pub mod FoundRanges
 pub mod NameLists
 pub mod OpenLevels
 pub mod CheckedItems
@@ -11,3 +12,4 @@ pub mod Whole
 pub mod Named
 pub mod KeptLists
 pub mod KeptAnswers
+pub mod HeldAddresses

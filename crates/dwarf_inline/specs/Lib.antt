@@ -1,4 +1,5 @@
 pub mod Links
 pub mod Nesting
+pub mod Sources
 pub mod Structure
 pub mod private

@@ -3,4 +3,5 @@ pub mod Levels
 pub mod Answers
 pub mod Names
 pub mod Details
+pub mod Found
 pub mod Kept

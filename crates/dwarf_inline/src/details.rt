@@ -1,13 +1,23 @@
 //! The ranges of the items, and what they add to an item.
 ghost use Rattle.std.specs.Prelude.{◌≡◌, ◌+◌, ◌-◌, ◌<◌, ◌≤◌, ◌^◌, ◌++◌, ℕ, Some, None, true, length, map, slice_get};
-ghost use Rattle.std.specs.Prelude.{IfOk, option_map};
+ghost use Rattle.std.specs.Prelude.{IfOk, OnOk, option_map, ◌==◌, ◌∷◌, [], if◌then◌else◌, List};
 ghost use Rattle.std.specs.List.{flat_map};
 ghost use Rattle.dwarf_info.specs.declared.outline.SubroutineEntry.{SubroutineEntry};
 ghost use Rattle.dwarf_info.specs.Subroutines.{item_entries, subroutine_entry};
 ghost use Rattle.dwarf_inline.specs.Structure.{counted_ranges, unit_line_table, call_row, call_at};
-ghost use Rattle.dwarf_inline.specs.private.Details.{ArePlaced, IsPlaced, detail_of};
+ghost use Rattle.elf_image.specs.Image.{ProgramImage};
+ghost use Rattle.dwarf_info.specs.declared.range_source.ListPlace.{ListPlace};
+ghost use Rattle.dwarf_info.specs.declared.range_source.RangeSource.TheVariants.{Listed};
+ghost use Rattle.dwarf_info.specs.Ranges.{place_ranges, ranges_of, source_ranges};
+ghost use Rattle.dwarf_inline.specs.declared.details.CallLine.TheVariants.{Nowhere};
+ghost use Rattle.dwarf_inline.specs.private.Details.{ArePlaced, IsPlaced, call_line, detail_of, line_id};
+ghost use Rattle.dwarf_inline.specs.private.Found.{AreKnown, HasFound, IsFound, IsAdded};
+ghost use Rattle.dwarf_inline.specs.private.Found.{all_ranges, first_start, store_of};
 
-use dwarf_info::{Entry, Info, SubroutineEntry};
+use crate::found_ranges::{
+    FoundRanges, KnownList, KnownLists, RangeStore, known_list, note_list, store_ranges,
+};
+use dwarf_info::{Entry, Info, RangeSource, SubroutineEntry};
 use dwarf_line::LineTable;
 use elf_image::Image;
 use prof_bytes::Memory;
@@ -22,15 +32,28 @@ pub(crate) struct Sources<'s, 'a, 'l, 'i> {
     pub(crate) image: &'s Image<'i>,
 }
 
+/// Where an item is called, in few bytes.
+#[derive(Clone, Copy, Debug)]
+pub(crate) enum CallLine {
+    /// It isn't an inlined subroutine with a range that counts.
+    Nowhere,
+    /// At a line of a line table.
+    InTable { table: u32, file: u32, line: u32 },
+    /// At an address.
+    AtAddress(u32),
+}
+
 /// What the ranges of an item add to it.
 #[derive(Clone, Copy, Debug)]
 pub(crate) struct Detail {
-    /// Where it is called, if it is an inlined subroutine with a range that counts.
-    pub(crate) call: Option<LineId>,
     /// The index of its first range among those of all items.
     pub(crate) first_range: u64,
+    /// Where it is called.
+    pub(crate) call: CallLine,
     /// The number of its ranges that count.
     pub(crate) range_count: u32,
+    /// Where they are.
+    pub(crate) at: u32,
 }
 
 /// The ranges of the items that count, and the details of the items.
@@ -40,30 +63,83 @@ pub(crate) struct RangeLists {
     pub(crate) places: Vec<u32>,
     /// Items that follow one another and have no range share one.
     pub(crate) details: Vec<Detail>,
-    pub(crate) ranges: Vec<(u32, u32)>,
+    pub(crate) store: RangeStore,
+    /// The number of the ranges of all.
+    pub(crate) total: u64,
 }
 
-/// Appends the ranges of an entry that count; the answer is their number.
-fn add_ranges(
+/// The ranges of an entry that count, and where all its ranges come from.
+fn read_ranges(
     alloc: Global,
     entry: &Entry<'_, '_>,
     image: &Image<'_>,
-    ranges: &mut Vec<(u32, u32)>,
-) -> Result<u32, Memory>
-    ensures ranges { IfOk result (λ _. ranges.new.items
-        ≡ ranges.old.items ++ counted_ranges entry.now.info image.now entry.now.index) }
-    ensures count { IfOk result (λ n. n ≡ length (counted_ranges entry.now.info image.now entry.now.index)) }
+) -> Result<(Vec<(u32, u32)>, RangeSource), Memory>
+    ensures ranges { IfOk result (λ r. r.0.items ≡ counted_ranges entry.now.info image.now entry.now.index) }
+    ensures source { IfOk result (λ r. source_ranges entry.now.info.sections r.1
+        ≡ ranges_of entry.now.info entry.now.index) }
+    ensures list { IfOk result (λ r. (place : ListPlace) → r.1 ≡ Listed place
+        → place_ranges entry.now.info.sections place ≡ Some (ranges_of entry.now.info entry.now.index)) }
+    ensures few { IfOk result (λ r. length r.0.items < 2 ^ 31) }
 {
-    let all = entry.ranges(alloc)?;
+    let (all, source) = entry.ranges_with_source(alloc)?;
     let pairs = all.pairs();
-    let mut count = 0u32;
+    let mut ranges = Vec::new(alloc);
     for range in pairs {
         if image.counts(range.0, range.1) {
             ranges.push(*range)?;
-            count += 1;
         }
     }
-    Ok(count)
+    Ok((ranges, source))
+}
+
+/// Reads the ranges of an entry that count, keeps them, and notes their list.
+fn keep_ranges(
+    store: &mut RangeStore,
+    alloc: Global,
+    entry: &Entry<'_, '_>,
+    image: &Image<'_>,
+    most: usize,
+) -> Result<FoundRanges, Memory>
+    requires few { length store.old.sources.items < 2 ^ 31 }
+    requires known { AreKnown (store_of entry.now.info.sections image.now.segments store.old)
+        store.old.known.lists.items }
+    ensures found { IfOk result (λ f. HasFound entry.now.info.sections image.now.segments store.old f
+        (counted_ranges entry.now.info image.now entry.now.index) store.new) }
+{
+    let (own, source) = read_ranges(alloc, entry, image)?;
+    let found = store_ranges(
+        &mut store.ranges,
+        &mut store.sources,
+        own.as_slice(),
+        source,
+        most,
+    )?;
+    if let RangeSource::Listed(place) = source {
+        note_list(&mut store.known, KnownList { place, found })?;
+    }
+    Ok(found)
+}
+
+/// Finds the ranges of an entry that count. Those of a list that is known are not read again.
+fn find_ranges(
+    store: &mut RangeStore,
+    alloc: Global,
+    entry: &Entry<'_, '_>,
+    image: &Image<'_>,
+    most: usize,
+) -> Result<FoundRanges, Memory>
+    requires few { length store.old.sources.items < 2 ^ 31 }
+    requires known { AreKnown (store_of entry.now.info.sections image.now.segments store.old)
+        store.old.known.lists.items }
+    ensures found { IfOk result (λ f. HasFound entry.now.info.sections image.now.segments store.old f
+        (counted_ranges entry.now.info image.now entry.now.index) store.new) }
+{
+    if let Some(place) = entry.list_place() {
+        if let Some(found) = known_list(&store.known, place) {
+            return Ok(found);
+        }
+    }
+    keep_ranges(store, alloc, entry, image, most)
 }
 
 /// The line table of an entry's unit, where it is of version 5.
@@ -91,27 +167,52 @@ fn call_row(table: Option<u32>, call: (Option<u32>, Option<u32>)) -> Option<Line
     }
 }
 
-/// Where an inlined subroutine with these ranges is called.
-fn call_at(lines: &LineTable<'_>, entry: &Entry<'_, '_>, ranges: &[(u32, u32)]) -> Option<LineId>
-    ensures { result ≡ call_at entry.now.info lines.now entry.now.index ranges.now }
+/// Where an inlined subroutine is called whose first range that counts has this start.
+fn call_at(lines: &LineTable<'_>, entry: &Entry<'_, '_>, first: Option<u32>) -> Option<LineId>
+    ensures { (ranges : List (ℕ × ℕ)) → first ≡ first_start ranges
+        → result ≡ call_at entry.now.info lines.now entry.now.index ranges }
 {
-    match ranges {
-        [] => None,
-        [first, ..] => match call_row(line_table(lines, entry), entry.call()) {
+    match first {
+        None => None,
+        Some(start) => match call_row(line_table(lines, entry), entry.call()) {
             Some(row) => Some(row),
-            None => Some(LineId::Address(first.0)),
+            None => Some(LineId::Address(start)),
         },
+    }
+}
+
+/// Where an item is called, in few bytes.
+fn call_line(call: Option<LineId>) -> CallLine
+    ensures { result ≡ call_line call }
+{
+    match call {
+        None => CallLine::Nowhere,
+        Some(LineId::Row { table, file, line }) => CallLine::InTable { table, file, line },
+        Some(LineId::Address(address)) => CallLine::AtAddress(address),
+    }
+}
+
+/// Where an item is called.
+pub(crate) fn line_id(call: CallLine) -> Option<LineId>
+    ensures { result ≡ line_id call }
+{
+    match call {
+        CallLine::Nowhere => None,
+        CallLine::InTable { table, file, line } => Some(LineId::Row { table, file, line }),
+        CallLine::AtAddress(address) => Some(LineId::Address(address)),
     }
 }
 
 /// Whether an item without a range has the same detail as one before it.
 fn is_shared(last: Detail, detail: Detail) -> bool
     ensures same { result ≡ true → last ≡ detail }
-    ensures shared { detail.call ≡ None → last ≡ detail → result ≡ true }
+    ensures shared { detail.call ≡ Nowhere → last ≡ detail → result ≡ true }
 {
     match (last.call, detail.call) {
-        (None, None) => {
-            last.first_range == detail.first_range && last.range_count == detail.range_count
+        (CallLine::Nowhere, CallLine::Nowhere) => {
+            last.first_range == detail.first_range
+                && last.range_count == detail.range_count
+                && last.at == detail.at
         }
         _ => false,
     }
@@ -124,7 +225,9 @@ fn add_detail(details: &mut Vec<Detail>, detail: Detail) -> Result<u32, Memory>
     ensures keeps { IfOk result (λ _. (i : ℕ) → i < length details.old.items
         → slice_get details.new.items i ≡ slice_get details.old.items i) }
     ensures few { IfOk result (λ _. length details.new.items ≤ length details.old.items + 1) }
-    ensures shared { IfOk result (λ _. detail.call ≡ None
+    ensures pushed { IfOk result (λ place. details.new.items ≡ (if place == length details.old.items
+        then details.old.items ++ detail ∷ [] else details.old.items)) }
+    ensures shared { IfOk result (λ _. detail.call ≡ Nowhere
         → slice_get details.old.items (length details.old.items - 1) ≡ Some detail
         → details.new.items ≡ details.old.items) }
 {
@@ -136,81 +239,95 @@ fn add_detail(details: &mut Vec<Detail>, detail: Detail) -> Result<u32, Memory>
     Ok(count as u32)
 }
 
-/// Appends the ranges of an item, which has this entry, that count; the answer is what they add to it.
-fn read_detail(
-    alloc: Global,
-    sources: Sources<'_, '_, '_, '_>,
+/// What the ranges of an item, which has this entry, add to it, with this index of its first range.
+fn detail_with(
+    lines: &LineTable<'_>,
     entry: &Entry<'_, '_>,
     inlined: bool,
-    ranges: &mut Vec<(u32, u32)>,
-) -> Result<Detail, Memory>
-    ensures ranges { IfOk result (λ _. ranges.new.items
-        ≡ ranges.old.items ++ counted_ranges entry.now.info sources.entry.image.now entry.now.index) }
-    ensures detail { (item : SubroutineEntry) → item.index ≡ entry.now.index → item.inlined ≡ inlined
-        → IfOk result (λ detail. detail ≡ detail_of entry.now.info sources.entry.lines.now sources.entry.image.now
-        (length ranges.old.items) item) }
+    first_range: u64,
+    found: FoundRanges,
+) -> Detail
+    ensures { (item : SubroutineEntry) (image : ProgramImage) → item.index ≡ entry.now.index
+        → item.inlined ≡ inlined → found.first ≡ first_start (counted_ranges entry.now.info image entry.now.index)
+        → found.count ≡ length (counted_ranges entry.now.info image entry.now.index)
+        → result ≡ detail_of entry.now.info lines.now image found.at first_range item }
 {
-    let first = ranges.len();
-    let range_count = add_ranges(alloc, entry, sources.image, ranges)?;
     let call = if inlined {
-        call_at(sources.lines, entry, &ranges[first..])
+        call_at(lines, entry, found.first)
     } else {
         None
     };
-    Ok(Detail {
-        call,
-        first_range: first as u64,
-        range_count,
-    })
+    Detail {
+        first_range,
+        call: call_line(call),
+        range_count: found.count,
+        at: found.at,
+    }
 }
 
-/// Appends the ranges of an item that count, and its detail; the answer is the index of its unit, before which the unit
-/// with index `near` is tried.
+/// Appends the detail of an item, and its ranges that count, of which at most `most` are kept; the answer is the index of
+/// its unit, before which the unit with index `near` is tried.
 fn add_item(
     lists: &mut RangeLists,
     alloc: Global,
     sources: Sources<'_, '_, '_, '_>,
     item: &SubroutineEntry,
     near: usize,
+    most: usize,
 ) -> Result<usize, Memory>
     requires entry { option_map (λ e. e.offset) (slice_get sources.info.now.entries item.now.index)
         ≡ Some item.now.offset }
     requires few { length lists.old.details.items < 2 ^ 31 }
-    ensures ranges { IfOk result (λ _. lists.new.ranges.items ≡ lists.old.ranges.items
-        ++ counted_ranges sources.entry.info.now sources.entry.image.now item.now.index) }
-    ensures placed { IfOk result (λ _. IsPlaced lists.old.places.items lists.old.details.items
-        (detail_of sources.entry.info.now sources.entry.lines.now sources.entry.image.now
-        (length lists.old.ranges.items) item.now) lists.new.places.items lists.new.details.items) }
+    requires places { length lists.old.places.items < 2 ^ 31 }
+    requires total { lists.old.total < 2 ^ 63 }
+    requires found { IsFound sources.info.now.sections sources.image.now.segments lists.old }
+    ensures added { IfOk result (λ _. IsAdded sources.entry.info.now.sections sources.entry.image.now.segments lists.old
+        (counted_ranges sources.entry.info.now sources.entry.image.now item.now.index) lists.new) }
+    ensures placed { IfOk result (λ _. (at : ℕ) × IsPlaced lists.old.places.items lists.old.details.items
+        (detail_of sources.entry.info.now sources.entry.lines.now sources.entry.image.now at
+        lists.old.total item.now) lists.new.places.items lists.new.details.items) }
 {
     let entry = sources.info.entry_of(item, near);
-    let detail = read_detail(alloc, sources, &entry, item.inlined, &mut lists.ranges)?;
+    let found = find_ranges(&mut lists.store, alloc, &entry, sources.image, most)?;
+    let detail = detail_with(sources.lines, &entry, item.inlined, lists.total, found);
     let place = add_detail(&mut lists.details, detail)?;
     lists.places.push(place)?;
+    lists.total += u64::from(found.count);
     Ok(entry.unit())
 }
 
-/// The ranges of all items that count, and the details of the items.
+/// The ranges of all items that count, of which at most `most` are kept, and the details of the items.
 pub(crate) fn read_lists(
     alloc: Global,
     sources: Sources<'_, '_, '_, '_>,
     items: &[SubroutineEntry],
+    most: usize,
 ) -> Result<RangeLists, Memory>
     requires few { length sources.info.now.entries < 2 ^ 31 }
     requires items { items.now ≡ map subroutine_entry (item_entries sources.info.now) }
     ensures places { IfOk result (λ lists. ArePlaced sources.entry.info.now sources.entry.lines.now
         sources.entry.image.now (length items.now) lists.places.items lists.details.items) }
-    ensures ranges { IfOk result (λ lists. lists.ranges.items
+    ensures ranges { IfOk result (λ lists. all_ranges (store_of sources.entry.info.now.sections
+        sources.entry.image.now.segments lists.store) lists.details.items
         ≡ flat_map (λ e. counted_ranges sources.entry.info.now sources.entry.image.now e.0)
         (item_entries sources.entry.info.now)) }
+    ensures found { IfOk result (λ lists. IsFound sources.entry.info.now.sections
+        sources.entry.image.now.segments lists) }
+    ensures short { IfOk result (λ lists. lists.total < 2 ^ 63) }
 {
     let mut lists = RangeLists {
         places: Vec::new(alloc),
         details: Vec::new(alloc),
-        ranges: Vec::new(alloc),
+        store: RangeStore {
+            ranges: Vec::new(alloc),
+            sources: Vec::new(alloc),
+            known: KnownLists::new(alloc),
+        },
+        total: 0,
     };
     let mut near = 0;
     for item in items {
-        near = add_item(&mut lists, alloc, sources, item, near)?;
+        near = add_item(&mut lists, alloc, sources, item, near, most)?;
     }
     Ok(lists)
 }

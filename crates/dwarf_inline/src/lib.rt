@@ -9,7 +9,9 @@
 mod details;
 mod ends;
 mod fault;
+mod found_ranges;
 mod identities;
+mod item_ranges;
 mod levels;
 mod links;
 mod long_entries;
@@ -17,5 +19,6 @@ mod structure;
 mod subroutine;
 
 pub use fault::StructureFault;
+pub use item_ranges::ItemRanges;
 pub use structure::{Structure, read_structure};
 pub use subroutine::Subroutine;

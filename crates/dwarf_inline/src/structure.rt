@@ -1,18 +1,25 @@
 //! A structure that was read.
-ghost use Rattle.std.specs.Prelude.{◌≡◌, ◌<◌, length, slice_get, Some};
+ghost use Rattle.std.specs.Prelude.{◌≡◌, ◌<◌, length, slice_get, Some, IfOk, take, drop};
+ghost use Rattle.std.specs.List.{list_any};
+ghost use Rattle.address_ranges.specs.Ranges.{holds};
 ghost use Rattle.prof_bytes.specs.Outcome.{Gives};
+ghost use Rattle.dwarf_inline.specs.declared.subroutine.Subroutine.{Subroutine};
+ghost use Rattle.dwarf_inline.specs.Sources.{ranges_in};
+ghost use Rattle.dwarf_inline.specs.private.Found.{ranges_there};
 ghost use Rattle.dwarf_inline.specs.Structure.{IsWholeStructure, proc_name, structure_of};
 
-use crate::details::{Detail, Sources, read_lists};
+use crate::details::{Detail, Sources, line_id, read_lists};
 use crate::ends::{afters_of, ends_of};
 use crate::fault::StructureFault;
+use crate::found_ranges::FIRST_SOURCE;
 use crate::identities::{ProcName, name_in, sort_names};
+use crate::item_ranges::{ItemRanges, RangesPlace, holds_there, ranges_there};
 use crate::levels::identities_of;
 use crate::subroutine::Subroutine;
-use dwarf_info::{Info, SubroutineEntry};
-use dwarf_line::LineTable;
+use dwarf_info::{DebugParts, Info, RangeSource, SubroutineEntry};
+use dwarf_line::{LineTable, Segments};
 use elf_image::Image;
-use prof_bytes::Fail;
+use prof_bytes::{Fail, Memory};
 use std::alloc::Global;
 use std::marker::Model;
 
@@ -30,11 +37,21 @@ pub struct Structure<'a> {
     details: Vec<Detail>,
     /// The names of the identities, by their offsets.
     names: Vec<ProcName<'a>>,
+    /// The ranges that are kept; items may share them.
     ranges: Vec<(u32, u32)>,
+    /// Where others come from.
+    sources: Vec<RangeSource>,
+    /// The sections of which ranges are read again.
+    sections: DebugParts<'a>,
+    segments: Segments,
 }
+
+/// The most ranges that are kept beside one for each byte of `.debug_info` and of `.debug_rnglists`.
+const MOST_FREE_RANGES: usize = 1 << 20;
 
 impl<'a> Model for Structure<'a> {
     ghost use Rattle.dwarf_inline.specs.Structure.{ProgramStructure};
+    ghost use Rattle.dwarf_info.specs.Sections.{sections_of};
     ghost use Rattle.dwarf_inline.specs.private.Kept.{AreLists, structure_in};
 
     ghost Value = { ProgramStructure };
@@ -47,6 +64,9 @@ impl<'a> Model for Structure<'a> {
       details = structure.details.items;
       names = structure.names.items;
       ranges = structure.ranges.items;
+      sources = structure.sources.items;
+      sections = sections_of structure.sections;
+      segments = structure.segments;
     }) };
 
     ghost invariant = { λ structure. AreLists (record {
@@ -57,6 +77,9 @@ impl<'a> Model for Structure<'a> {
       details = structure.details.items;
       names = structure.names.items;
       ranges = structure.ranges.items;
+      sources = structure.sources.items;
+      sections = sections_of structure.sections;
+      segments = structure.segments;
     }) };
 }
 
@@ -82,19 +105,54 @@ impl<'a> Structure<'a> {
             inlined: entry.inlined,
             next_after_subtree: self.afters[at],
             identity: self.identities[at],
-            call: detail.call,
+            call: line_id(detail.call),
             first_range: detail.first_range,
             range_count: detail.range_count,
         }
     }
 
-    /// A range that counts, from its start up to its end (DWARF 5, section 2.17). Those of an item are the
-    /// `range_count` ranges from `first_range` on. Takes no memory.
-    pub fn range(&self, index: u64) -> (u32, u32)
-        requires { index < length self.now.ranges }
-        ensures { slice_get self.now.ranges index ≡ Some result }
+    /// Where the ranges of the item with a number are.
+    fn ranges_place(&self, number: u32) -> RangesPlace<'_, 'a>
+        requires { number < length self.now.items }
+        ensures { (item : Subroutine) → slice_get self.now.items number ≡ Some item
+            → ranges_there result ≡ take item.range_count (drop item.first_range self.now.ranges) }
     {
-        self.ranges[index as usize]
+        let place = self.places[number as usize] as usize;
+        let detail = self.details[place];
+        if detail.at < FIRST_SOURCE {
+            let first = detail.at as usize;
+            let end = first + detail.range_count as usize;
+            return RangesPlace::Kept(&self.ranges[first..end]);
+        }
+        let source = self.sources[(detail.at - FIRST_SOURCE) as usize];
+        RangesPlace::Unkept(&self.sections, &self.segments, source)
+    }
+
+    /// The ranges of the item with a number that count (DWARF 5, section 2.17). They are lent where they are kept, and
+    /// else read again.
+    pub fn ranges(&self, alloc: Global, number: u32) -> Result<ItemRanges<'_>, Memory>
+        requires { number < length self.now.items }
+        ensures { (item : Subroutine) → slice_get self.now.items number ≡ Some item → IfOk result
+            (λ r. ranges_in r ≡ take item.range_count (drop item.first_range self.now.ranges)) }
+    {
+        ranges_there(alloc, self.ranges_place(number))
+    }
+
+    /// Whether one of the ranges of the item with a number that count holds an address. Takes no memory. Where the
+    /// ranges aren't kept, the list is read up to its end.
+    pub fn holds(&self, number: u32, address: u32) -> bool
+        requires { number < length self.now.items }
+        ensures { (item : Subroutine) → slice_get self.now.items number ≡ Some item → result
+            ≡ list_any (λ r. holds address (record { start = r.0; end = r.1 }))
+            (take item.range_count (drop item.first_range self.now.ranges)) }
+    {
+        holds_there(self.ranges_place(number), address)
+    }
+
+    /// Whether the ranges of some items are not kept, but read again where they are asked for. It decides only time and
+    /// memory, so no clause says when.
+    pub fn has_unkept_ranges(&self) -> bool {
+        !self.sources.is_empty()
     }
 
     /// The name of the procedure with an identity, of at most `MOST_NAME_BYTES` bytes (DWARF 5, section 2.15);
@@ -127,7 +185,11 @@ pub fn read_structure<'a>(
     let mut identities = identities_of(alloc, info, entries.as_slice(), ends)?;
     sort_names(&mut identities.names);
     let sources = Sources { info, lines, image };
-    let lists = read_lists(alloc, sources, entries.as_slice())?;
+    let sections = info.sections();
+    let bytes = sections.info.len().saturating_add(sections.rnglists.len());
+    let most = bytes.saturating_add(MOST_FREE_RANGES);
+    let lists = read_lists(alloc, sources, entries.as_slice(), most)?;
+    let segments = Segments::of(alloc, image)?;
     Ok(Structure {
         entries,
         afters,
@@ -135,6 +197,9 @@ pub fn read_structure<'a>(
         places: lists.places,
         details: lists.details,
         names: identities.names,
-        ranges: lists.ranges,
+        ranges: lists.store.ranges,
+        sources: lists.store.sources,
+        sections,
+        segments,
     })
 }

@@ -15,3 +15,4 @@ pub mod TableLists
 pub mod CutPaths
 pub mod Within
 pub mod WholePaths
+pub mod CodeAround

@@ -24,6 +24,7 @@ mod tables;
 mod texts;
 mod unkept;
 
+pub use code::Segments;
 pub use fault::LineFault;
 pub use laws::row_count_is_at_most_bytes;
 pub use lines::{LineTable, read_lines};

@@ -8,6 +8,7 @@
 
 mod attribution;
 mod call;
+mod code_addresses;
 mod commands;
 mod live_runs;
 mod prepare;

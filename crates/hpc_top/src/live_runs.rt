@@ -14,6 +14,7 @@ ghost use Rattle.program_run.specs.Collecting.{IsStart};
 ghost use Rattle.hpc_top.specs.private.LiveRuns.{IsAnswer, IsLiveRun, RunsLive, live_fault, measured_live};
 ghost use Rattle.hpc_top.specs.private.LiveRuns.{product_or, run_attributed};
 
+use crate::code_addresses::{finder_of_code, lines_of_code};
 use crate::commands::profile::{Job, report_of};
 use crate::profiling::{ReadJob, read_job};
 use cfi_table::FrameTable;
@@ -31,7 +32,6 @@ use run_profile::content_of_tree;
 use rv_run::Schedule;
 use sample_clock::{Samples, samples_are_of_instructions};
 use scope_expand::{Expander, call_paths_have_roots};
-use scope_find::Finder;
 use scope_types::EventPeriod;
 use std::alloc::Global;
 use std::thread::Threads;
@@ -187,17 +187,18 @@ fn live_scopes<R: Threads + Sync, M: Merger>(
     schedule: Schedule,
     image: &Image<'_>,
     table: &FrameTable,
-    lines: &LineTable<'_>,
+    lines: LineTable<'_>,
     structure: &Structure<'_>,
 ) -> Result<Product, Fail<InputFault>>
     requires events { AreEvents job.now.periods.now }
     requires epoch { (least_epoch ≤ epoch) × (epoch ≤ most_epoch) }
     ensures { Gives (λ p. p) result (product_or
         (profiled_program image.now (descriptions table.now)
-        (record { structure = structure.now; lines = lines.now; image = image.now }) schedule job.now.input.now
+        (record { structure = structure.now; lines = lines.entry; image = image.now }) schedule job.now.input.now
         job.now.periods.now)) }
 {
-    let finder = Finder::of(alloc, structure, lines, image)?;
+    let lines = lines_of_code(alloc, lines, image)?;
+    let finder = finder_of_code(alloc, structure, &lines, image)?;
     let expander = Expander::of(alloc, &finder);
     let live = run_while_merging(
         rt, alloc, job, merger, epoch, schedule, image, table, &expander,
@@ -228,6 +229,6 @@ pub fn live_product<R: Threads + Sync, M: Merger>(
         structure,
     } = read;
     live_scopes(
-        rt, alloc, job, merger, epoch, schedule, &image, &table, &lines, &structure,
+        rt, alloc, job, merger, epoch, schedule, &image, &table, lines, &structure,
     )
 }

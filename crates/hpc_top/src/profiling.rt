@@ -20,7 +20,7 @@ use elf_image::Image;
 use merge_crew::Crews;
 use prof_bytes::Fail;
 use program_run::{CountedRun, count_run, frames_of, program_of, schedule_of, scopes_of};
-use run_profile::{Merge, Merged, lines_of_samples, merge_samples};
+use run_profile::{Merge, Merged, finder_of_samples, lines_of_samples, merge_samples};
 use rv_run::Schedule;
 use scope_find::Finder;
 use std::alloc::Global;
@@ -81,7 +81,7 @@ fn merge_scopes<'a, R: Threads + Sync, C: Crews>(
         result (profiled (record { structure = structure.now; lines = lines.entry; image = image.now }) m) }
 {
     let lines = lines_of_samples(alloc, lines, &run.ccts)?;
-    let finder = Finder::of(alloc, structure, &lines, image)?;
+    let finder = finder_of_samples(alloc, structure, &lines, image, &run.ccts)?;
     let runs = [run.harts];
     let merge = Merge {
         crews,

@@ -11,6 +11,7 @@ pub mod commands;
 mod counting;
 mod program;
 mod scopes;
+mod traced_addresses;
 mod tracing;
 
 pub use collect::start_samples;

@@ -13,6 +13,7 @@ ghost use Rattle.run_profile.specs.Attribution.{attribution_or};
 use crate::both::database_and_tables;
 use crate::events::event_lines;
 use crate::merged::{Merge, content_of_crew, crew_of};
+use crate::sampled_addresses::finder_of_samples;
 use command_line::{InputFault, Product, no_text};
 use dwarf_inline::Structure;
 use dwarf_line::LineTable;
@@ -79,6 +80,6 @@ pub fn attribute_scopes<R: Threads + Sync, C: Crews>(
         merge.now.events.now merge.now.runs.now (each_sample ccts))) }
 {
     measurements_count_samples();
-    let finder = Finder::of(alloc, structure, lines, image)?;
+    let finder = finder_of_samples(alloc, structure, lines, image, &ccts)?;
     attribute_counted(rt, alloc, merge, &finder, ccts)
 }

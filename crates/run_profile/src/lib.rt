@@ -11,11 +11,11 @@ mod both;
 pub mod commands;
 mod events;
 mod merged;
-mod sampled_lines;
+mod sampled_addresses;
 mod table;
 
 pub use attribution::attribute_scopes;
 pub use both::database_and_tables;
 pub use events::event_lines;
 pub use merged::{Merge, Merged, content_of_tree, merge_samples};
-pub use sampled_lines::lines_of_samples;
+pub use sampled_addresses::{finder_of_samples, lines_of_samples};

@@ -6,11 +6,13 @@
 //! keeps. Below are `scope_find`, `tree_types`, `scope_types` and `prof_bytes`.
 #![tactic(auto)]
 
+mod addresses;
 mod expander;
 mod laws;
 mod memo;
 mod names;
 
+pub use addresses::PathAddresses;
 pub use expander::Expander;
 pub use laws::call_paths_have_roots;
 pub use memo::Memo;

@@ -10,7 +10,7 @@ use Rattle.dwarf_inline.specs.declared.subroutine.Subroutine.{Subroutine}
 use Rattle.dwarf_inline.specs.Structure.{ProgramStructure}
 use Rattle.scope_find.specs.declared.span.Span.{Span}
 use Rattle.scope_find.specs.Found.{Numbered, numbered, item_holds, inlined_before}
-use Rattle.scope_find.specs.private.Spans.{IsOpenAt, NoneOpen, IsFirstOpen, IsInlinedNext, inlined_from, into_number, no_item, item_at}
+use Rattle.scope_find.specs.private.Spans.{IsOpenAt, NoneOpen, IsFirstOpen, IsInlinedNext, inlined_from, into_number, no_item, item_at, called}
 use Rattle.scope_find.proofs.Holding.{held_item, open_range}
 
 pub past_drop : {X : Type 0} (xs : List X) (k : ℕ) → length xs ≤ k → drop k xs ≡ []
@@ -27,10 +27,6 @@ number_drop s k lt =
     drop-cons (numbered s) k d n
     ∙ ap (λ (i : Numbered). i ∷ drop (suc k) (numbered s)) (get_or-enumerate_from 0 s.items k d lt ∙ ap (λ (j : ℕ). (j, item_at s k)) e)
     ∙ ap (λ (j : ℕ). (k, item_at s k) ∷ drop j (numbered s)) (let f : suc k ≡ k + 1 = omega arith in f)
-
--- whether an item is a call that is inlined at the address
-abbrev pub called : ProgramStructure → ℕ → ℕ → Bool
-called s address k = (item_at s k).inlined && item_holds s address (item_at s k)
 
 pub at_end : (s : ProgramStructure) (address low end : ℕ) → end ≤ low → inlined_from s address low end ≡ []
 unfolding inlined_before
@@ -117,7 +113,7 @@ module _ (s : ProgramStructure) (held : List Span) (address : ℕ) (o : IsOpenAt
       to_number s address low number end above (omega arith) (omega arith) (quiet_below low number (λ q is kind from to. let le : number ≤ q.item = first.least q is kind from in omega arith))
       ∙ call s address number end near within is
 
-from_item : (s : ProgramStructure) (item : ℕ) (it : Subroutine) (address : ℕ) → slice_get s.items item ≡ Some it → into_number s address item ≡ inlined_from s address (item + 1) it.next_after_subtree
+pub from_item : (s : ProgramStructure) (item : ℕ) (it : Subroutine) (address : ℕ) → slice_get s.items item ≡ Some it → into_number s address item ≡ inlined_from s address (item + 1) it.next_after_subtree
 from_item s item it address there = ap (λ (i : Subroutine). inlined_from s address (item + 1) i.next_after_subtree) (get_or_from_slice_get s.items item it no_item there)
 
 pub next_some : (s : ProgramStructure) (held : List Span) (item number : ℕ) (it : Subroutine) → slice_get s.items item ≡ Some it → IsFirstOpen held true (item + 1) number → number < it.next_after_subtree → (address : ℕ) → IsOpenAt s held address → IsInlinedNext s address item (Some number)

@@ -5,8 +5,8 @@ use Rattle.std.proofs.lemmas.List.FromFn.{length-enumerate_from}
 use Rattle.dwarf_inline.specs.Structure.{ProgramStructure}
 use Rattle.scope_find.specs.Found.{Numbered, numbered}
 use Rattle.scope_find.specs.Laws.{first_inlined, inlined_with, InlinedByDescendants}
-use Rattle.scope_find.specs.private.Spans.{inlined_from, item_at}
-use Rattle.scope_find.proofs.Chains.{past_drop, number_drop, called, at_end, at_all, skip, call}
+use Rattle.scope_find.specs.private.Spans.{inlined_from, item_at, called}
+use Rattle.scope_find.proofs.Chains.{past_drop, number_drop, at_end, at_all, skip, call}
 
 none_first : (s : ProgramStructure) (address n : ℕ) → first_inlined s address (take n []) ≡ None
 none_first s address zero = refl

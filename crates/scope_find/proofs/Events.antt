@@ -1,11 +1,11 @@
 -- The starts and ends of all ranges of items.
-use Rattle.std.proofs.Common.{◌≡◌, ◌⊎◌, ℕ, zero, suc, ◌+◌, ◌<◌, ◌≤◌, List, [], ◌∷◌, ◌++◌, length, get_or, take, drop, Some, refl, sym, ap, ◌∙◌, subst, inl, inr, arith, append_assoc}
+use Rattle.std.proofs.Common.{◌≡◌, ◌⊎◌, ℕ, zero, suc, ◌+◌, ◌<◌, List, [], ◌∷◌, ◌++◌, length, get_or, take, drop, Some, refl, sym, ap, ◌∙◌, subst, inl, inr, arith}
 use Rattle.std.specs.Prelude.{slice_get}
 use Rattle.std.specs.List.{Contains, flat_map}
 use Rattle.std.specs.List.Sorted.{IsPermutation}
 use Rattle.std.proofs.Math.Seq.{take-length}
 use Rattle.std.proofs.lemmas.Grind.{flat_map-append}
-use Rattle.std.proofs.lemmas.List.{take_more, take-append-drop, get_or-take, get_or-drop, length-take-le, length-drop, append-nil}
+use Rattle.std.proofs.lemmas.List.{take_more, take-append-drop, append-nil}
 use Rattle.std.proofs.lemmas.List.Elements.{All-contains, Contains-append_left, Contains-append_right, Contains-append_cases, Contains-push_cases}
 use Rattle.std.proofs.lemmas.List.FromFn.{length-enumerate_from, get_or-enumerate_from}
 use Rattle.std.proofs.lemmas.List.Sorted.{Contains-permutation, IsPermutation-sym}
@@ -141,27 +141,6 @@ events_are s events whole moved = record {
     at_some e q at lt = subst (λ (z : Span). z.start < z.end) (sym (same_span e q at)) lt
 
 -- ---- the loops that put them
-
-pub range_put : (s : ProgramStructure) → IsWholeStructure s → (number k : ℕ) (item : Subroutine) (start end : ℕ) (before after more : List Event) → slice_get s.items number ≡ Some item → k < item.range_count → slice_get s.ranges (item.first_range + k) ≡ Some (start, end)
-    → after ≡ before ++ flat_map (range_events (number, item)) (take k (item_ranges s item)) → more ≡ after ++ starting (span_of (number, item) (start, end)) ∷ ending (span_of (number, item) (start, end)) ∷ []
-    → more ≡ before ++ flat_map (range_events (number, item)) (take (k + 1) (item_ranges s item))
-range_put s whole number k item start end before after more there lt at so_far pushed =
-    let f = range_events (number, item) in
-    let rs = item_ranges s item in
-    let d : ℕ × ℕ = (start, end) in
-    let placed = All-at s whole number item there in
-    let len : length rs ≡ item.range_count = length-take-le item.range_count (drop item.first_range s.ranges) (let l = length-drop item.first_range s.ranges in omega arith) in
-    let g : get_or rs k d ≡ d =
-    get_or-take item.range_count (drop item.first_range s.ranges) k d lt ∙ get_or-drop item.first_range s.ranges k d ∙ get_or_from_slice_get s.ranges (item.first_range + k) d d at in
-    pushed
-    ∙ ap (λ (es : List Event). es ++ f d) so_far
-    ∙ append_assoc before (flat_map f (take k rs)) (f d)
-    ∙ ap (λ (es : List Event). before ++ (flat_map f (take k rs) ++ es)) (sym (append-nil (f d)))
-    ∙ ap (λ (es : List Event). before ++ es) (sym (flat_map-append f (take k rs) (d ∷ [])))
-    ∙ ap (λ (xs : List (ℕ × ℕ)). before ++ flat_map f xs) (sym (take_more rs k d (omega arith) ∙ ap (λ (x : ℕ × ℕ). take k rs ++ x ∷ []) g))
-  where
-    All-at : (s : ProgramStructure) → IsWholeStructure s → (number : ℕ) (item : Subroutine) → slice_get s.items number ≡ Some item → item.first_range + item.range_count ≤ length s.ranges
-    All-at s whole number item there = All-contains (λ (i : Subroutine). i.first_range + i.range_count ≤ length s.ranges) s.items item whole.placed (number, slice_get_within s.items number item there, get_or_from_slice_get s.items number item item there)
 
 pub item_put : (s : ProgramStructure) (number : ℕ) (item : Subroutine) (after more : List Event) → slice_get s.items number ≡ Some item
     → after ≡ flat_map (item_events s) (take number (numbered s)) → more ≡ after ++ item_events s (number, item)

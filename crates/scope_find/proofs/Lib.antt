@@ -1,3 +1,7 @@
+pub mod PlaceSets
+pub mod CallNodes
+pub mod PaintedPlaces
+pub mod HeldPlaces
 pub mod Orders
 pub mod Taking
 pub mod FirstHeld
@@ -13,3 +17,7 @@ pub mod IntervalsMade
 pub mod IntervalsFound
 pub mod SymbolsFound
 pub mod Scopes
+pub mod Painting
+pub mod KnownPlaces
+pub mod ReadingOut
+pub mod Walking

@@ -11,7 +11,7 @@ use Rattle.scope_find.specs.private.Spans.{AreSpans, IsOpenAt, NoneOpen, IsFirst
 use Rattle.scope_find.proofs.Holding.{held_item, open_range}
 
 module _ (test : Numbered → Bool) where
-  find_first : (xs : List Subroutine) (m n : ℕ) (d : Subroutine) → n < length xs → test (m + n, get_or xs n d) ≡ true → ((k : ℕ) → k < n → test (m + k, get_or xs k d) ≡ false) → find test (enumerate_from m xs) ≡ Some (m + n, get_or xs n d)
+  pub find_first : (xs : List Subroutine) (m n : ℕ) (d : Subroutine) → n < length xs → test (m + n, get_or xs n d) ≡ true → ((k : ℕ) → k < n → test (m + k, get_or xs k d) ≡ false) → find test (enumerate_from m xs) ≡ Some (m + n, get_or xs n d)
   find_first [] m n d lt is before = absurd (omega arith)
   find_first (x ∷ xs) m zero d lt is before =
       let e : m + 0 ≡ m = omega arith in
@@ -25,7 +25,7 @@ module _ (test : Numbered → Bool) where
       (λ k lt. subst (λ (j : ℕ). test (j, get_or xs k d) ≡ false) (let f : m + suc k ≡ m + 1 + k = omega arith in f) (before (suc k) (omega arith))) in
       rw fails (rest ∙ ap (λ (j : ℕ). Some (j, get_or xs n d)) (sym e))
 
-  find_none : (xs : List Subroutine) (m : ℕ) (d : Subroutine) → ((k : ℕ) → k < length xs → test (m + k, get_or xs k d) ≡ false) → find test (enumerate_from m xs) ≡ None
+  pub find_none : (xs : List Subroutine) (m : ℕ) (d : Subroutine) → ((k : ℕ) → k < length xs → test (m + k, get_or xs k d) ≡ false) → find test (enumerate_from m xs) ≡ None
   find_none [] m d all = refl
   find_none (x ∷ xs) m d all =
       let z : m + 0 ≡ m = omega arith in

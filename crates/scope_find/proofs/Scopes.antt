@@ -19,13 +19,14 @@ use Rattle.scope_find.specs.Views.{inline_view}
 use Rattle.scope_find.specs.private.Spans.{IsProcedureAt, no_item, item_at, into_number, calls_at}
 use Rattle.scope_find.specs.private.Calls.{HasCallsAt}
 use Rattle.scope_find.specs.private.Intervals.{interval_at, IsRightAt, IsFoundIn}
-use Rattle.scope_find.specs.private.Scopes.{subprogram_of, levels_of, procedure_by}
+use Rattle.scope_find.specs.private.KnownPlaces.{HasLevelsAt, HasInlinesAt}
+use Rattle.scope_find.specs.private.Scopes.{subprogram_in, levels_in, procedure_by}
 
 into_item : (s : ProgramStructure) (address number : ℕ) (item : Subroutine) → slice_get s.items number ≡ Some item → into_number s address number ≡ inlined_into s address (number, item)
 into_item s address number item there = ap (λ (i : Subroutine). inlined_into s address (number, i)) (get_or_from_slice_get s.items number item no_item there)
 
 module _ (p : ProgramScopes) (address : ℕ) where
-  procedure_by_number : (o : Option ℕ) → IsProcedureAt p.structure address o → procedure_by p.structure p.image address o ≡ procedure_at p address (subprogram_at p.structure address)
+  pub procedure_by_number : (o : Option ℕ) → IsProcedureAt p.structure address o → procedure_by p.structure p.image address o ≡ procedure_at p address (subprogram_at p.structure address)
   procedure_by_number None is = ap (procedure_at p address) (sym is)
   procedure_by_number (Some number) is =
       ap (λ (i : Subroutine). Die i.identity) (get_or_from_slice_get p.structure.items number is.item no_item is.there) ∙ ap (procedure_at p address) (sym is.found)
@@ -35,40 +36,34 @@ module _ (p : ProgramScopes) (address : ℕ) where
   calls_by_number (Some number) is =
       ap (λ (items : List Subroutine). map inline_scope items) (into_item p.structure address number is.item is.there) ∙ ap (inlines_at p address) (sym is.found)
 
-  number_within : (o : Option ℕ) → IsProcedureAt p.structure address o → IfSome o (λ number. number < length p.structure.items)
+  pub number_within : (o : Option ℕ) → IsProcedureAt p.structure address o → IfSome o (λ number. number < length p.structure.items)
   number_within None is = tt
   number_within (Some number) is = slice_get_within p.structure.items number is.item is.there
 
-  module _ (calls : List NextCall) where
-    interval_subprogram : (interval : Option AddressInterval) → IsRightAt p.structure calls address interval → IsProcedureAt p.structure address (subprogram_of interval)
-    interval_subprogram None right = right
-    interval_subprogram (Some q) right = right.procedure
+  pub levels_found : (levels : ℕ) → HasLevelsAt p.structure address levels → levels ≡ length (inlines_at p address (subprogram_at p.structure address))
+  levels_found levels has =
+      has.count
+      ∙ sym (length-map (calls_at p.structure address has.number) inline_scope)
+      ∙ ap (λ (is : List (ProcId × LineId)). length is) (calls_by_number has.number has.procedure)
 
-    pub interval_has : (interval : Option AddressInterval) → IsRightAt p.structure calls address interval → HasCallsAt p.structure calls address (subprogram_of interval)
-    interval_has None right = tt
-    interval_has (Some q) right = right.has
-
-    pub interval_count : (interval : Option AddressInterval) → IsRightAt p.structure calls address interval → levels_of interval ≡ length (calls_at p.structure address (subprogram_of interval))
-    interval_count None right = refl
-    interval_count (Some q) right = right.levels_are
-
-    pub interval_procedure : (interval : Option AddressInterval) → IsRightAt p.structure calls address interval → procedure_by p.structure p.image address (subprogram_of interval) ≡ procedure_at p address (subprogram_at p.structure address)
-    interval_procedure interval right = procedure_by_number (subprogram_of interval) (interval_subprogram interval right)
-
-    pub interval_inlines : (interval : Option AddressInterval) → IsRightAt p.structure calls address interval → map inline_scope (calls_at p.structure address (subprogram_of interval)) ≡ inlines_at p address (subprogram_at p.structure address)
-    interval_inlines interval right = calls_by_number (subprogram_of interval) (interval_subprogram interval right)
-
-    pub interval_levels : (interval : Option AddressInterval) → IsRightAt p.structure calls address interval → levels_of interval ≡ length (inlines_at p address (subprogram_at p.structure address))
-    interval_levels interval right =
-        interval_count interval right
-        ∙ sym (length-map (calls_at p.structure address (subprogram_of interval)) inline_scope)
-        ∙ ap (λ (is : List (ProcId × LineId)). length is) (interval_inlines interval right)
-
-    pub interval_within : (interval : Option AddressInterval) → IsRightAt p.structure calls address interval → IfSome (subprogram_of interval) (λ number. number < length p.structure.items)
-    interval_within interval right = number_within (subprogram_of interval) (interval_subprogram interval right)
+  pub inlines_found : (inlines : List InlineAt) → HasInlinesAt p.structure address inlines → map inline_view inlines ≡ inlines_at p address (subprogram_at p.structure address)
+  inlines_found inlines has = has.told ∙ calls_by_number has.number has.procedure
 
   pub same_found : (f : FoundAt) → f.procedure ≡ procedure_at p address (subprogram_at p.structure address) → f.inlines ≡ inlines_at p address (subprogram_at p.structure address) → f.line ≡ unwrap_or (line_at p.lines.sequences address) (Address address) → f ≡ found_at p address
   same_found f a b c = λ i. record { procedure = a i; inlines = b i; line = c i }
+
+module _ (s : ProgramStructure) (address : ℕ) (calls : List NextCall) where
+  pub interval_procedure : (interval : Option AddressInterval) → IsRightAt s calls address interval → IsProcedureAt s address (subprogram_in interval)
+  interval_procedure None right = right
+  interval_procedure (Some q) right = right.procedure
+
+  pub interval_has : (interval : Option AddressInterval) → IsRightAt s calls address interval → HasCallsAt s calls address (subprogram_in interval)
+  interval_has None right = tt
+  interval_has (Some q) right = right.has
+
+  pub interval_count : (interval : Option AddressInterval) → IsRightAt s calls address interval → levels_in interval ≡ length (calls_at s address (subprogram_in interval))
+  interval_count None right = refl
+  interval_count (Some q) right = right.levels_are
 
 -- one more call
 pub scopes_more : (s : ProgramStructure) (address number next : ℕ) (item : Subroutine) (before after : List InlineAt) (one : InlineAt) (all : List (ProcId × LineId)) → slice_get s.items next ≡ Some item → inline_view one ≡ inline_scope item

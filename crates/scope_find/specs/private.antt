@@ -3,3 +3,6 @@ pub mod Calls
 pub mod Intervals
 pub mod Scopes
 pub mod Starts
+pub mod Places
+pub mod Painted
+pub mod KnownPlaces

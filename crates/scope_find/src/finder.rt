@@ -1,17 +1,17 @@
 //! Finding the scopes at an address.
-ghost use Rattle.std.specs.Prelude.{◌≡◌, ◌<◌, length, map, IfOk, IfSome, unwrap_or};
+ghost use Rattle.std.specs.Prelude.{◌≡◌, ◌<◌, length, IfOk, IfSome, unwrap_or};
 ghost use Rattle.dwarf_line.specs.Sequences.{line_at};
 ghost use Rattle.scope_types.specs.declared.scope.LineId.TheVariants as lines;
-ghost use Rattle.scope_find.specs.Found.{inline_scope, found_at, naming_of};
-ghost use Rattle.scope_find.specs.Views.{inline_view, found_view};
-ghost use Rattle.scope_find.specs.private.Calls.{HasCallsAt, AreInOrder};
-ghost use Rattle.scope_find.specs.private.Spans.{calls_at};
-ghost use Rattle.scope_find.specs.private.Scopes.{subprogram_of, levels_of, procedure_by};
+ghost use Rattle.scope_find.specs.Found.{found_at, naming_of};
+ghost use Rattle.scope_find.specs.Views.{found_view};
+ghost use Rattle.scope_find.specs.private.Scopes.{procedure_by};
 
-use crate::found::{Found, InlineAt};
-use crate::intervals::{AddressInterval, AddressIntervals, interval_at, intervals_of, next_call};
+use crate::found::Found;
+use crate::intervals::AddressIntervals;
+use crate::lookup::Lookup;
 use crate::names::{name_at_start, procedure_by_symbol, symbols_by_start};
-use dwarf_inline::{Structure, Subroutine};
+use crate::places::Places;
+use dwarf_inline::Structure;
 use dwarf_line::LineTable;
 use elf_image::{Function, Image};
 use prof_bytes::{Listed, Memory, Text};
@@ -25,44 +25,35 @@ pub struct Finder<'a> {
     alloc: Global,
     lines: &'a LineTable<'a>,
     image: &'a Image<'a>,
-    found: AddressIntervals<'a>,
+    lookup: Lookup<'a>,
     /// The function symbols in the order of their starts.
     starts: Vec<Function<'a>>,
 }
 
 impl<'a> Model for Finder<'a> {
     ghost use Rattle.scope_find.specs.Found.{ProgramScopes};
-    ghost use Rattle.scope_find.specs.private.Starts.{IsFinder};
+    ghost use Rattle.scope_find.specs.private.Scopes.{looked_up};
+    ghost use Rattle.scope_find.specs.private.Starts.{AreByStart};
 
     ghost Value = { ProgramScopes };
 
     ghost view = { λ finder. record {
-      structure = finder.found.structure.now;
+      structure = looked_up finder.lookup;
       lines = finder.lines.now;
       image = finder.image.now;
     } };
 
-    ghost invariant = { λ finder.
-        IsFinder finder.found.structure.now finder.image.now.functions finder.found.intervals.items
-        finder.found.calls.items finder.starts.items };
+    ghost invariant = { λ finder. AreByStart finder.image.now.functions finder.starts.items };
 }
 
-fn subprogram_of(interval: Option<AddressInterval>) -> Option<u32>
-    ensures { result ≡ subprogram_of interval }
-{
-    match interval {
-        Some(interval) => interval.subprogram,
-        None => None,
+/// From how many frames on it is not worth to gather their addresses for a finder that knows these: as many as there are
+/// items, since a finder by intervals takes time for each of these. Where ranges aren't kept, all are gathered, since
+/// there may be far more ranges than items. It decides only time and memory, so no clause says how many.
+pub fn most_gathered(structure: &Structure<'_>) -> u64 {
+    if structure.has_unkept_ranges() {
+        return u64::MAX;
     }
-}
-
-fn levels_of(interval: Option<AddressInterval>) -> u32
-    ensures { result ≡ levels_of interval }
-{
-    match interval {
-        Some(interval) => interval.levels,
-        None => 0,
-    }
+    u64::from(structure.len())
 }
 
 fn procedure_of(
@@ -80,44 +71,6 @@ fn procedure_of(
     }
 }
 
-fn inline_of(item: Subroutine) -> InlineAt
-    ensures { inline_view result ≡ inline_scope item }
-{
-    InlineAt {
-        callee: ProcId::Die(item.identity),
-        call: item.call.unwrap_or(LineId::Address(0)),
-    }
-}
-
-/// The calls that are inlined at an address into a subprogram, the outermost first. There are `levels` of them.
-fn inlines_of(
-    alloc: Global,
-    found: &AddressIntervals<'_>,
-    pc: u32,
-    subprogram: Option<u32>,
-    levels: u32,
-) -> Result<Vec<InlineAt>, Memory>
-    requires order { AreInOrder found.now.calls.items }
-    requires calls { HasCallsAt found.now.structure.now found.now.calls.items pc subprogram }
-    requires levels { levels ≡ length (calls_at found.now.structure.now pc subprogram) }
-    ensures { IfOk result (λ inlines.
-        map inline_view inlines.items ≡ map inline_scope (calls_at found.now.structure.now pc subprogram)) }
-{
-    let mut inlines = Vec::new(alloc);
-    let Some(number) = subprogram else {
-        return Ok(inlines);
-    };
-    let mut item = number;
-    let mut left = levels;
-    while left > 0 {
-        let next = next_call(found, pc, item);
-        inlines.push(inline_of(found.structure.subroutine(next)))?;
-        item = next;
-        left -= 1;
-    }
-    Ok(inlines)
-}
-
 fn line_of(table: &LineTable<'_>, pc: u32) -> LineId
     ensures { result ≡ unwrap_or (line_at table.now.sequences pc) (lines.Address pc) }
 {
@@ -125,8 +78,9 @@ fn line_of(table: &LineTable<'_>, pc: u32) -> LineId
 }
 
 impl<'a> Finder<'a> {
-    /// The finder of a program's scopes. Takes time n log n in the number of ranges, times the greatest number
-    /// of calls that are inlined at one address, and n log n in the number of function symbols.
+    /// The finder of a program's scopes by the intervals of all addresses. Takes time n log n in the number of ranges
+    /// of all items, times the greatest number of calls that are inlined at one address, and memory for all these
+    /// ranges; and time n log n in the number of function symbols.
     pub fn of(
         alloc: Global,
         structure: &'a Structure<'a>,
@@ -136,35 +90,61 @@ impl<'a> Finder<'a> {
         ensures { IfOk result (λ finder.
             finder ≡ record { structure = structure.now; lines = lines.now; image = image.now }) }
     {
-        let found = intervals_of(alloc, structure)?;
+        let lookup = Lookup::Intervals(AddressIntervals::of(alloc, structure)?);
         let starts = symbols_by_start(alloc, image)?;
         Ok(Finder {
             alloc,
             lines,
             image,
-            found,
+            lookup,
+            starts,
+        })
+    }
+
+    /// The finder of a program's scopes at these addresses. What is asked of one of them takes a binary search among
+    /// them, and of another address a walk over all items and their ranges. Takes time n log n in the number of
+    /// addresses, and logarithmic in it for each range of an item, and for the subprogram and each inlined call of an
+    /// address; and memory for these subprograms and calls, of which 2^23 are kept at most, and for the ranges of one
+    /// item. No clause says which addresses these are, since no answer depends on it.
+    pub fn of_addresses(
+        alloc: Global,
+        structure: &'a Structure<'a>,
+        lines: &'a LineTable<'a>,
+        image: &'a Image<'a>,
+        addresses: Vec<u32>,
+    ) -> Result<Finder<'a>, Memory>
+        ensures { IfOk result (λ finder.
+            finder ≡ record { structure = structure.now; lines = lines.now; image = image.now }) }
+    {
+        let lookup = Lookup::Known(Places::of(alloc, structure, addresses)?);
+        let starts = symbols_by_start(alloc, image)?;
+        Ok(Finder {
+            alloc,
+            lines,
+            image,
+            lookup,
             starts,
         })
     }
 
     /// The number of inlined calls at an address (DWARF 5, section 3.3.8). Takes no memory, and time logarithmic in the
-    /// number of ranges.
+    /// number of ranges, or of known addresses; linear in the items and their ranges, where the finder is one of known
+    /// addresses and this is none of them.
     pub fn levels_at(&self, pc: u32) -> u32
         ensures { result ≡ length (found_at self.now pc).inlines }
     {
-        levels_of(interval_at(self.found.intervals.as_slice(), pc))
+        self.lookup.levels_of(pc)
     }
 
-    /// The scopes at an address (DWARF 5, sections 3.3 and 6.2). Takes time logarithmic in the number of ranges, for each
-    /// of the inlined calls too.
+    /// The scopes at an address (DWARF 5, sections 3.3 and 6.2). Takes time logarithmic in the number of ranges, for
+    /// each of the inlined calls too, or in the number of known addresses; linear in the items and their ranges, where
+    /// the finder is one of known addresses and this is none of them, or its calls are not kept.
     pub fn scopes_at(&self, pc: u32) -> Result<Found, Memory>
         ensures { IfOk result (λ found. found_view found ≡ found_at self.now pc) }
     {
-        let interval = interval_at(self.found.intervals.as_slice(), pc);
-        let subprogram = subprogram_of(interval);
-        let procedure = procedure_of(self.found.structure, self.image, pc, subprogram);
-        let levels = levels_of(interval);
-        let inlines = inlines_of(self.alloc, &self.found, pc, subprogram, levels)?;
+        let subprogram = self.lookup.subprogram_of(pc);
+        let procedure = procedure_of(self.lookup.structure(), self.image, pc, subprogram);
+        let inlines = self.lookup.inlines_of(self.alloc, pc)?;
         Ok(Found {
             procedure,
             inlines: Listed::of(inlines),
@@ -178,7 +158,7 @@ impl<'a> Finder<'a> {
         ensures { IfOk result (λ name. name ≡ (naming_of self.now).proc_name id) }
     {
         match id {
-            ProcId::Die(offset) => Text::of(self.alloc, self.found.structure.proc_name(offset)),
+            ProcId::Die(offset) => Text::of(self.alloc, self.lookup.structure().proc_name(offset)),
             ProcId::Sym(start) => Text::of(
                 self.alloc,
                 name_at_start(self.starts.as_slice(), start),

@@ -1,3 +1,8 @@
+ghost use Rattle.std.specs.Prelude.{◌≡◌};
+ghost use Rattle.scope_find.specs.Found.{inline_scope};
+ghost use Rattle.scope_find.specs.Views.{inline_view};
+
+use dwarf_inline::Subroutine;
 use prof_bytes::Listed;
 use scope_types::{LineId, ProcId};
 
@@ -15,4 +20,14 @@ pub struct Found {
     /// The inlined calls, the outermost first.
     pub inlines: Listed<InlineAt>,
     pub line: LineId,
+}
+
+/// The call of an item that is inlined.
+pub(crate) fn inline_of(item: Subroutine) -> InlineAt
+    ensures { inline_view result ≡ inline_scope item }
+{
+    InlineAt {
+        callee: ProcId::Die(item.identity),
+        call: item.call.unwrap_or(LineId::Address(0)),
+    }
 }

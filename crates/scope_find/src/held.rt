@@ -1,5 +1,5 @@
 //! The ranges that hold an address, and the items that are found by them.
-ghost use Rattle.std.specs.Prelude.{◌≡◌, ◌<◌, ℕ, length, IfSome, OnOk, MatchOption};
+ghost use Rattle.std.specs.Prelude.{◌<◌, ℕ, length, IfSome, OnOk, MatchOption};
 ghost use Rattle.dwarf_inline.specs.Structure.{IsWholeStructure};
 ghost use Rattle.scope_find.specs.private.Spans.{Takes, NoneOpen, IsFirstOpen, AreSpans, IsOpenAt, IsProcedureAt};
 ghost use Rattle.scope_find.specs.private.Spans.{IsInlinedNext};

@@ -1,19 +1,25 @@
 //! Intervals of addresses: the same items hold each address of an interval.
-ghost use Rattle.std.specs.Prelude.{◌≡◌, ◌+◌, ◌<◌, ℕ, length, drop, IfOk, OnOk, true, false};
+ghost use Rattle.std.specs.Prelude.{◌≡◌, ◌+◌, ◌<◌, ℕ, length, map, drop, IfOk, OnOk, true, false};
 ghost use Rattle.std.specs.List.Sorted.{IsNonDecreasingBy};
 ghost use Rattle.dwarf_inline.specs.Structure.{IsWholeStructure};
-ghost use Rattle.scope_find.specs.private.Spans.{AreSpans, AreEventsOf, into_number};
-ghost use Rattle.scope_find.specs.private.Calls.{AreLatest, AreBefore, AreInOrder, HasCalls, IsFoundNext};
+ghost use Rattle.scope_find.specs.Found.{inline_scope};
+ghost use Rattle.scope_find.specs.Views.{inline_view};
+ghost use Rattle.scope_find.specs.private.Spans.{AreSpans, AreEventsOf, IsProcedureAt, calls_at};
+ghost use Rattle.scope_find.specs.private.Calls.{AreLatest, AreBefore, AreInOrder, HasCallsAt};
 ghost use Rattle.scope_find.specs.private.Intervals.{interval_at, IsFollowed, AreAbove};
-ghost use Rattle.scope_find.specs.private.Intervals.{IsIntervalPut, IsSplit, IsSwept, IsFoundIn};
+ghost use Rattle.scope_find.specs.private.Intervals.{IsIntervalPut, IsSplit, IsSwept};
+ghost use Rattle.scope_find.specs.private.KnownPlaces.{HasLevelsAt, HasInlinesAt};
+ghost use Rattle.scope_find.specs.private.Scopes.{subprogram_in, levels_in};
 
 use crate::calls::{NextCall, NextCalls, in_order, no_calls, number_at, put_calls};
+use crate::found::{InlineAt, inline_of};
 use crate::held::{subprogram_held, take_event};
 use crate::span::{Event, Span, events_of};
 use dwarf_inline::Structure;
 use prof_bytes::Memory;
 use std::alloc::Global;
 use std::collections::BTreeSet;
+use std::marker::Model;
 
 /// The addresses from a start up to that of the next interval: the number of the subprogram that holds them, and how
 /// many calls are inlined there.
@@ -27,12 +33,23 @@ pub(crate) struct AddressInterval {
 /// What holds each address of a program.
 #[derive(Drop)]
 pub(crate) struct AddressIntervals<'a> {
-    pub structure: &'a Structure<'a>,
+    structure: &'a Structure<'a>,
     /// All intervals in the order of their starts.
-    pub intervals: Vec<AddressInterval>,
+    intervals: Vec<AddressInterval>,
     /// The calls that are inlined next into items, by item and then by start. So each range takes memory for a few of
     /// these, however many calls are inlined at an address.
-    pub calls: Vec<NextCall>,
+    calls: Vec<NextCall>,
+}
+
+impl<'a> Model for AddressIntervals<'a> {
+    ghost use Rattle.dwarf_inline.specs.Structure.{ProgramStructure};
+    ghost use Rattle.scope_find.specs.private.Intervals.{IsFoundIn};
+
+    ghost Value = { ProgramStructure };
+
+    ghost view = { λ found. found.structure.now };
+
+    ghost invariant = { λ found. IsFoundIn found.structure.now found.intervals.items found.calls.items };
 }
 
 /// Appends the interval that begins at an address, and the next calls from there on.
@@ -100,37 +117,6 @@ fn sweep(
     put_interval(structure, held, event.address, intervals, calls)
 }
 
-/// The intervals of all addresses. Takes time n log n in the number of ranges, times the greatest number of calls that
-/// are inlined at one address.
-pub(crate) fn intervals_of<'a>(
-    alloc: Global,
-    structure: &'a Structure<'a>,
-) -> Result<AddressIntervals<'a>, Memory>
-    ensures structure { IfOk result (λ found. found.structure.now ≡ structure.now) }
-    ensures found { IfOk result (λ found. IsFoundIn found.structure.now found.intervals.items found.calls.items) }
-{
-    let events = events_of(alloc, structure)?;
-    let mut held = BTreeSet::new(alloc);
-    // room: `events.len()`, an interval for each event
-    let mut intervals = Vec::with_capacity(alloc, events.len())?;
-    let mut calls = no_calls(alloc, structure)?;
-    for index in 0..events.len() {
-        sweep(
-            structure,
-            events.as_slice(),
-            index,
-            &mut held,
-            &mut intervals,
-            &mut calls,
-        )?;
-    }
-    Ok(AddressIntervals {
-        structure,
-        intervals,
-        calls: in_order(calls),
-    })
-}
-
 /// The number of intervals whose start is at most an address.
 fn count_up_to(intervals: &[AddressInterval], address: u32) -> usize
     requires { IsNonDecreasingBy (λ p. p.start) intervals.now }
@@ -140,7 +126,7 @@ fn count_up_to(intervals: &[AddressInterval], address: u32) -> usize
 }
 
 /// The interval of an address.
-pub(crate) fn interval_at(intervals: &[AddressInterval], address: u32) -> Option<AddressInterval>
+fn interval_at(intervals: &[AddressInterval], address: u32) -> Option<AddressInterval>
     requires { IsNonDecreasingBy (λ p. p.start) intervals.now }
     ensures { result ≡ interval_at intervals.now address }
 {
@@ -151,12 +137,121 @@ pub(crate) fn interval_at(intervals: &[AddressInterval], address: u32) -> Option
     Some(intervals[count - 1])
 }
 
-/// The number of the call that is inlined next into an item at an address, where there is one.
-pub(crate) fn next_call(found: &AddressIntervals<'_>, address: u32, item: u32) -> u32
-    requires order { AreInOrder found.now.calls.items }
-    requires has { HasCalls found.now.structure.now found.now.calls.items address item }
-    requires some { 0 < length (into_number found.now.structure.now address item) }
-    ensures { IsFoundNext found.now.structure.now found.now.calls.items address item result }
+fn subprogram_in(interval: Option<AddressInterval>) -> Option<u32>
+    ensures { result ≡ subprogram_in interval }
 {
-    number_at(found.calls.as_slice(), item, address)
+    match interval {
+        Some(interval) => interval.subprogram,
+        None => None,
+    }
+}
+
+fn levels_in(interval: Option<AddressInterval>) -> u32
+    ensures { result ≡ levels_in interval }
+{
+    match interval {
+        Some(interval) => interval.levels,
+        None => 0,
+    }
+}
+
+/// The calls that are inlined at an address into a subprogram, the outermost first. There are `levels` of them.
+fn inlines_in(
+    alloc: Global,
+    structure: &Structure<'_>,
+    calls: &[NextCall],
+    address: u32,
+    subprogram: Option<u32>,
+    levels: u32,
+) -> Result<Vec<InlineAt>, Memory>
+    requires order { AreInOrder calls.now }
+    requires has { HasCallsAt structure.now calls.now address subprogram }
+    requires levels { levels ≡ length (calls_at structure.now address subprogram) }
+    ensures { IfOk result (λ inlines.
+        map inline_view inlines.items ≡ map inline_scope (calls_at structure.now address subprogram)) }
+{
+    let mut inlines = Vec::new(alloc);
+    let Some(number) = subprogram else {
+        return Ok(inlines);
+    };
+    let mut item = number;
+    let mut left = levels;
+    while left > 0 {
+        let next = number_at(calls, item, address);
+        inlines.push(inline_of(structure.subroutine(next)))?;
+        item = next;
+        left -= 1;
+    }
+    Ok(inlines)
+}
+
+impl<'a> AddressIntervals<'a> {
+    /// The intervals of all addresses. Takes time n log n in the number of ranges, times the greatest number of calls
+    /// that are inlined at one address, and memory for the ranges.
+    pub(crate) fn of(
+        alloc: Global,
+        structure: &'a Structure<'a>,
+    ) -> Result<AddressIntervals<'a>, Memory>
+        ensures { IfOk result (λ found. found ≡ structure.now) }
+    {
+        let events = events_of(alloc, structure)?;
+        let mut held = BTreeSet::new(alloc);
+        // room: `events.len()`, an interval for each event
+        let mut intervals = Vec::with_capacity(alloc, events.len())?;
+        let mut calls = no_calls(alloc, structure)?;
+        for index in 0..events.len() {
+            sweep(
+                structure,
+                events.as_slice(),
+                index,
+                &mut held,
+                &mut intervals,
+                &mut calls,
+            )?;
+        }
+        Ok(AddressIntervals {
+            structure,
+            intervals,
+            calls: in_order(calls),
+        })
+    }
+
+    /// The structure.
+    pub(crate) fn structure(&self) -> &'a Structure<'a>
+        ensures { result.now ≡ self.now }
+    {
+        self.structure
+    }
+
+    /// The number of the subprogram that holds an address. Takes no memory, and time logarithmic in the number of
+    /// ranges.
+    pub(crate) fn subprogram_of(&self, address: u32) -> Option<u32>
+        ensures { IsProcedureAt self.now address result }
+    {
+        subprogram_in(interval_at(self.intervals.as_slice(), address))
+    }
+
+    /// The number of calls that are inlined at an address. Takes no memory, and time logarithmic in the number of
+    /// ranges.
+    pub(crate) fn levels_of(&self, address: u32) -> u32
+        ensures { HasLevelsAt self.now address result }
+    {
+        levels_in(interval_at(self.intervals.as_slice(), address))
+    }
+
+    /// The calls that are inlined at an address, the outermost first. Takes time logarithmic in the number of ranges,
+    /// for each of the calls too.
+    pub(crate) fn inlines_of(&self, alloc: Global, address: u32) -> Result<Vec<InlineAt>, Memory>
+        ensures { IfOk result (λ inlines. HasInlinesAt self.now address inlines.items) }
+    {
+        let interval = interval_at(self.intervals.as_slice(), address);
+        inlines_in(
+            alloc,
+            self.structure,
+            self.calls.as_slice(),
+            address,
+            subprogram_in(interval),
+            levels_in(interval),
+        )
+    }
 }

@@ -12,9 +12,14 @@ mod found;
 mod held;
 mod intervals;
 mod laws;
+mod lookup;
 mod names;
+mod painted;
+mod place_sets;
+mod places;
 mod span;
+mod walk;
 
-pub use finder::Finder;
+pub use finder::{Finder, most_gathered};
 pub use found::{Found, InlineAt};
 pub use laws::inlined_by_descendants;

@@ -40,21 +40,22 @@ fn put_span(events: &mut Vec<Event>, span: Span) -> Result<(), Memory>
 /// Appends the starts and ends of an item's ranges.
 fn put_item(
     events: &mut Vec<Event>,
+    alloc: Global,
     structure: &Structure<'_>,
     number: u32,
     item: Subroutine,
 ) -> Result<(), Memory>
-    requires whole { IsWholeStructure structure.now }
     requires there { slice_get structure.now.items number ≡ Some item }
     ensures { OnOk result (events.new.items ≡ events.old.items ++ item_events structure.now (number, item)) }
 {
-    for at in 0..item.range_count {
-        let (start, end) = structure.range(item.first_range + u64::from(at));
+    let ranges = structure.ranges(alloc, number)?;
+    let pairs = ranges.as_slice();
+    for range in pairs {
         let span = Span {
             inlined: item.inlined,
             item: number,
-            start,
-            end,
+            start: range.0,
+            end: range.1,
         };
         put_span(events, span)?;
     }
@@ -69,7 +70,13 @@ pub(crate) fn events_of(alloc: Global, structure: &Structure<'_>) -> Result<Vec<
 {
     let mut events = Vec::new(alloc);
     for number in 0..structure.len() {
-        put_item(&mut events, structure, number, structure.subroutine(number))?;
+        put_item(
+            &mut events,
+            alloc,
+            structure,
+            number,
+            structure.subroutine(number),
+        )?;
     }
     events.sort_unstable_by_key(|event| event.address);
     Ok(events)

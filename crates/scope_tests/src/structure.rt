@@ -59,45 +59,56 @@ fn item_of(row: &Row) -> Subroutine {
     }
 }
 
-fn ranges_are(structure: &Structure<'_>, at: u32, wanted: &[(u32, u32)]) -> bool
+/// Whether an item holds the first and the last address of each of its ranges, and not the one after it.
+fn holds_are(structure: &Structure<'_>, at: u32, wanted: &[(u32, u32)]) -> bool
     requires { at < length structure.now.items }
 {
-    let _count = structure.len();
-    let item = structure.subroutine(at);
-    if item.range_count as usize != wanted.len() {
-        return false;
-    }
-    for k in 0..item.range_count {
-        if structure.range(item.first_range + u64::from(k)) != wanted[k as usize] {
+    for (start, end) in wanted {
+        if !structure.holds(at, *start)
+            || !structure.holds(at, end.saturating_sub(1))
+            || structure.holds(at, *end)
+        {
             return false;
         }
     }
-    true
+    !structure.holds(at, 0)
 }
 
-fn rows_are(structure: &Structure<'_>, rows: &[Row]) -> bool {
+fn ranges_are(
+    alloc: Global,
+    structure: &Structure<'_>,
+    at: u32,
+    wanted: &[(u32, u32)],
+) -> Result<bool, Memory>
+    requires { at < length structure.now.items }
+{
+    let ranges = structure.ranges(alloc, at)?;
+    Ok(ranges.as_slice() == wanted && holds_are(structure, at, wanted))
+}
+
+fn rows_are(alloc: Global, structure: &Structure<'_>, rows: &[Row]) -> Result<bool, Memory> {
     let count = structure.len();
     if count as usize != rows.len() {
-        return false;
+        return Ok(false);
     }
     for at in 0..count {
         let row = &rows[at as usize];
         let item = structure.subroutine(at);
         if item != item_of(row)
             || structure.proc_name(item.identity) != row.5
-            || !ranges_are(structure, at, row.6)
+            || !ranges_are(alloc, structure, at, row.6)?
         {
-            return false;
+            return Ok(false);
         }
     }
-    structure.proc_name(1) == b"<unnamed>".as_slice()
+    Ok(structure.proc_name(1) == b"<unnamed>".as_slice())
 }
 
-fn is_wanted(structure: &Structure<'_>, wanted: &Wanted) -> bool {
+fn is_wanted(alloc: Global, structure: &Structure<'_>, wanted: &Wanted) -> Result<bool, Memory> {
     match wanted {
-        Wanted::Rows(rows) => rows_are(structure, rows),
-        Wanted::Count(count) => structure.len() == *count,
-        Wanted::Fault(_) => false,
+        Wanted::Rows(rows) => rows_are(alloc, structure, rows),
+        Wanted::Count(count) => Ok(structure.len() == *count),
+        Wanted::Fault(_) => Ok(false),
     }
 }
 
@@ -110,7 +121,7 @@ impl Question for Wanted {
         image: &Image<'_>,
     ) -> Result<bool, Unread> {
         match read_structure(alloc, info, lines, image) {
-            Ok(structure) => Ok(is_wanted(&structure, self)),
+            Ok(structure) => Ok(is_wanted(alloc, &structure, self)?),
             Err(prof_bytes::Fail::Memory(memory)) => Err(prof_bytes::Fail::Memory(memory)),
             Err(prof_bytes::Fail::Fault(fault)) => match self {
                 Fault(other) => Ok(fault == *other),

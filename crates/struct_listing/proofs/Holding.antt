@@ -1,8 +1,8 @@
 -- The ranges of subprograms, and which of them holds an address.
-use Rattle.std.proofs.Common.{◌≡◌, ℕ, ◌+◌, ◌<◌, ◌≤◌, Bool, true, false, cond, List, [], ◌∷◌, ◌++◌, length, take, get_or, map, Some, refl, sym, ap, ◌∙◌, append-nil, append_assoc}
+use Rattle.std.proofs.Common.{◌≡◌, ℕ, ◌+◌, ◌<◌, ◌≤◌, Bool, true, false, cond, List, [], ◌∷◌, ◌++◌, length, take, get_or, map, Some, refl, sym, ap, ◌∙◌, append-nil}
 use Rattle.std.specs.Prelude.{find, is_some, not, slice_get, ◌&&◌, ◌||◌}
 use Rattle.std.specs.List.{enumerate_from, flat_map, list_any}
-use Rattle.std.proofs.lemmas.List.{take_more, take_all, map-append}
+use Rattle.std.proofs.lemmas.List.{take_more, take_all}
 use Rattle.std.proofs.lemmas.List.Concat.{flat_map-append}
 use Rattle.std.proofs.lemmas.Option.{slice_get_within, get_or_from_slice_get}
 use Rattle.address_ranges.specs.Ranges.{holds}
@@ -11,18 +11,8 @@ use Rattle.dwarf_inline.specs.Structure.{ProgramStructure}
 use Rattle.scope_find.specs.Found.{Numbered, item_holds, item_ranges, range_holds, subprogram_at}
 use Rattle.struct_listing.specs.declared.symbols.CodeRange.{CodeRange}
 use Rattle.struct_listing.specs.private.Holders.{code_range, code_range_of, item_part, subprogram_ranges}
-use Rattle.struct_listing.proofs.RangeTexts.{more_ranges}
 
--- ---- the ranges, one more at a time
-
-pub range_pushed : (s : ProgramStructure) (item : Subroutine) (at : ℕ) (r : ℕ × ℕ) (start now after : List CodeRange)
-    → item.first_range + item.range_count ≤ length s.ranges → at < item.range_count → slice_get s.ranges (item.first_range + at) ≡ Some r
-    → now ≡ start ++ map code_range (take at (item_ranges s item)) → after ≡ now ++ code_range r ∷ []
-    → after ≡ start ++ map code_range (take (at + 1) (item_ranges s item))
-range_pushed s item at r start now after placed lt there so_far push =
-    let rs : List (ℕ × ℕ) = take at (item_ranges s item) in
-    push ∙ ap (λ (l : List CodeRange). l ++ code_range r ∷ []) so_far ∙ append_assoc start (map code_range rs) (code_range r ∷ [])
-    ∙ ap (λ (l : List CodeRange). start ++ l) (sym (ap (map code_range) (more_ranges s item at r placed lt there) ∙ map-append code_range rs (r ∷ [])))
+-- ---- the ranges of items, one more at a time
 
 pub item_added : (s : ProgramStructure) (number : ℕ) (item : Subroutine) (now after : List CodeRange) → slice_get s.items number ≡ Some item
     → now ≡ flat_map (item_part s) (take number s.items) → after ≡ now ++ item_part s item → after ≡ flat_map (item_part s) (take (number + 1) s.items)

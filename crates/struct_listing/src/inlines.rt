@@ -1,5 +1,5 @@
 //! The calls that are inlined into a subprogram.
-ghost use Rattle.std.specs.Prelude.{◌≡◌, ◌+◌, ◌*◌, ◌<◌, ◌≤◌, ◌^◌, ◌++◌, length, OnOk};
+ghost use Rattle.std.specs.Prelude.{◌≡◌, ◌+◌, ◌*◌, ◌<◌, ◌++◌, slice_get, Some, OnOk};
 ghost use Rattle.tree_types.specs.TopDown.{line_label, spaces};
 ghost use Rattle.dwarf_inline.specs.Structure.{IsWholeStructure};
 ghost use Rattle.scope_find.specs.Found.{naming_of};
@@ -50,10 +50,10 @@ fn put_inline(
     alloc: Global,
     program: Program<'_>,
     level: usize,
+    number: u32,
     item: Subroutine,
 ) -> Result<(), Memory>
-    requires short { length program.structure.now.ranges < 2 ^ 63 }
-    requires placed { item.first_range + item.range_count ≤ length program.structure.now.ranges }
+    requires there { slice_get program.structure.now.items number ≡ Some item }
     ensures { OnOk result (out.new.items ≡ out.old.items ++ inline_line (scopes_of program.entry) level item) }
 {
     put_indent(out, level)?;
@@ -62,7 +62,7 @@ fn put_inline(
     out.extend_from_slice(b" called at ")?;
     let call = item.call.unwrap_or(LineId::Address(0));
     put_call(out, alloc, program, call)?;
-    put_tail(out, program.structure, item)
+    put_tail(out, alloc, program.structure, number, item)
 }
 
 /// The lines of the inlined subroutines below a subprogram. `inlines` are all that are listed, and `ends` those that are
@@ -85,7 +85,7 @@ pub(crate) fn put_inlines(
     for inline in below {
         let level = inline.depth as usize - count_open(ends, inline.number);
         let callee = program.structure.subroutine(inline.number);
-        put_inline(out, alloc, program, level, callee)?;
+        put_inline(out, alloc, program, level, inline.number, callee)?;
     }
     Ok(())
 }

@@ -1,5 +1,5 @@
 //! The subprograms, each with the calls that are inlined into it.
-ghost use Rattle.std.specs.Prelude.{◌≡◌, ◌+◌, ◌<◌, ◌≤◌, ◌^◌, ◌++◌, length, filter, slice_get, Some, OnOk};
+ghost use Rattle.std.specs.Prelude.{◌≡◌, ◌+◌, ◌<◌, ◌++◌, filter, slice_get, Some, OnOk};
 ghost use Rattle.std.specs.List.{flat_map};
 ghost use Rattle.dwarf_inline.specs.Structure.{IsWholeStructure};
 ghost use Rattle.scope_find.specs.Found.{numbered};
@@ -16,14 +16,19 @@ use prof_bytes::{Memory, put_printed};
 use std::alloc::Global;
 
 /// The line of a subprogram.
-fn put_line(out: &mut Vec<u8>, program: Program<'_>, item: Subroutine) -> Result<(), Memory>
-    requires short { length program.structure.now.ranges < 2 ^ 63 }
-    requires placed { item.first_range + item.range_count ≤ length program.structure.now.ranges }
+fn put_line(
+    out: &mut Vec<u8>,
+    alloc: Global,
+    program: Program<'_>,
+    number: u32,
+    item: Subroutine,
+) -> Result<(), Memory>
+    requires there { slice_get program.structure.now.items number ≡ Some item }
     ensures { OnOk result (out.new.items ≡ out.old.items ++ subprogram_line (scopes_of program.entry) item) }
 {
     out.extend_from_slice(b"proc ")?;
     put_printed(out, program.structure.proc_name(item.identity))?;
-    put_tail(out, program.structure, item)
+    put_tail(out, alloc, program.structure, number, item)
 }
 
 /// An item as a subprogram, where it is listed. `inlines` are all inlined subroutines that are listed, and `ends` those
@@ -44,7 +49,7 @@ fn put_subprogram(
     ensures { OnOk result (out.new.items ≡ out.old.items ++ subprogram_part (scopes_of program.entry) (number, item)) }
 {
     if !item.inlined && item.range_count > 0 {
-        put_line(out, program, item)?;
+        put_line(out, alloc, program, number, item)?;
         put_inlines(out, alloc, program, inlines, ends, number, item)?;
     }
     Ok(())

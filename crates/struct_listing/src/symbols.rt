@@ -1,6 +1,6 @@
 //! The functions that no subprogram holds, by their symbols.
-ghost use Rattle.std.specs.Prelude.{◌≡◌, ◌+◌, ◌<◌, ◌≤◌, ◌^◌, ◌++◌, length, map, filter, find, is_some, IfOk};
-ghost use Rattle.std.specs.Prelude.{OnOk};
+ghost use Rattle.std.specs.Prelude.{◌≡◌, ◌+◌, ◌<◌, ◌^◌, ◌++◌, map, filter, find, is_some, IfOk};
+ghost use Rattle.std.specs.Prelude.{slice_get, Some, OnOk};
 ghost use Rattle.std.specs.List.{flat_map};
 ghost use Rattle.address_ranges.specs.Ranges.{holds};
 ghost use Rattle.elf_image.specs.Image.{symbol_view};
@@ -40,16 +40,21 @@ impl HasRange for CodeRange {
 /// Appends the ranges of an item.
 fn add_ranges(
     ranges: &mut Vec<CodeRange>,
+    alloc: Global,
     structure: &Structure<'_>,
+    number: u32,
     item: Subroutine,
 ) -> Result<(), Memory>
-    requires short { length structure.now.ranges < 2 ^ 63 }
-    requires placed { item.first_range + item.range_count ≤ length structure.now.ranges }
+    requires there { slice_get structure.now.items number ≡ Some item }
     ensures { OnOk result (ranges.new.items ≡ ranges.old.items ++ map code_range (item_ranges structure.now item)) }
 {
-    for at in 0..item.range_count {
-        let (start, end) = structure.range(item.first_range + u64::from(at));
-        ranges.push(CodeRange { start, end })?;
+    let found = structure.ranges(alloc, number)?;
+    let pairs = found.as_slice();
+    for range in pairs {
+        ranges.push(CodeRange {
+            start: range.0,
+            end: range.1,
+        })?;
     }
     Ok(())
 }
@@ -57,15 +62,16 @@ fn add_ranges(
 /// Appends the ranges of an item, where it is a subprogram.
 fn add_subprogram(
     ranges: &mut Vec<CodeRange>,
+    alloc: Global,
     structure: &Structure<'_>,
+    number: u32,
     item: Subroutine,
 ) -> Result<(), Memory>
-    requires short { length structure.now.ranges < 2 ^ 63 }
-    requires placed { item.first_range + item.range_count ≤ length structure.now.ranges }
+    requires there { slice_get structure.now.items number ≡ Some item }
     ensures { OnOk result (ranges.new.items ≡ ranges.old.items ++ item_part structure.now item) }
 {
     if !item.inlined {
-        add_ranges(ranges, structure, item)?;
+        add_ranges(ranges, alloc, structure, number, item)?;
     }
     Ok(())
 }
@@ -76,7 +82,8 @@ fn subprogram_ranges(alloc: Global, structure: &Structure<'_>) -> Result<Vec<Cod
 {
     let mut ranges = Vec::new(alloc);
     for number in 0..structure.len() {
-        add_subprogram(&mut ranges, structure, structure.subroutine(number))?;
+        let item = structure.subroutine(number);
+        add_subprogram(&mut ranges, alloc, structure, number, item)?;
     }
     Ok(ranges)
 }

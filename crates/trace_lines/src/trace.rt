@@ -2,7 +2,7 @@
 ghost use Rattle.std.specs.Prelude.{◌≡◌, ◌+◌, ◌/◌, ◌<◌, ◌≤◌, length, slice_get, Some, IfOk, OnOk, OnErr};
 ghost use Rattle.prof_bytes.specs.Outcome.{Gives, viewed};
 ghost use Rattle.scope_types.specs.Limits.{most_harts, most_samples};
-ghost use Rattle.trace_lines.specs.Traces.{IsTrace, hart_in, idle_harts, retired_by};
+ghost use Rattle.trace_lines.specs.Traces.{IsTrace, distinct_paths, hart_in, idle_harts, retired_by};
 ghost use Rattle.trace_lines.specs.Traces.{sampled_once, samples_traced, with_harts};
 
 use crate::harts::Harts;
@@ -169,6 +169,23 @@ impl Trace {
         ensures { IfOk result (λ raw. slice_get (hart_in self.now.harts hart).samples sample ≡ Some raw) }
     {
         self.harts.hart(hart).sample(sample).copy()
+    }
+
+    /// How many distinct raw paths a hart has.
+    pub fn distinct_paths(&self, hart: u32) -> u32
+        requires { hart < length self.now.harts }
+        ensures { result ≡ length (distinct_paths (hart_in self.now.harts hart).samples) }
+    {
+        self.harts.hart(hart).paths()
+    }
+
+    /// A hart's distinct raw path, by its place from 0 in the order of their first samples.
+    pub fn distinct_path(&self, hart: u32, place: u32) -> &RawPath
+        requires hart { hart < length self.now.harts }
+        requires place { place < length (distinct_paths (hart_in self.now.harts hart).samples) }
+        ensures { slice_get (distinct_paths (hart_in self.now.harts hart).samples) place ≡ Some result.now }
+    {
+        self.harts.hart(hart).path(place)
     }
 
     /// A hart, by its number from 0.

@@ -11,6 +11,7 @@ ghost use Rattle.command_line.specs.Kind.{AreWithin};
 
 use crate::program::{is_same_program, program_of, wrong_program};
 use crate::scopes::scopes_of;
+use crate::traced_addresses::{finder_of_trace, lines_of_trace};
 use command_line::{InputFault, Product, as_input, nothing, text_alone};
 use dwarf_inline::Structure;
 use dwarf_line::LineTable;
@@ -18,7 +19,6 @@ use elf_image::Image;
 use hash_key::HashKey;
 use prof_bytes::{Fail, Memory, Text};
 use scope_expand::Expander;
-use scope_find::Finder;
 use std::alloc::Global;
 use trace_lines::{Trace, read_trace, timeline};
 
@@ -50,7 +50,7 @@ fn check_program(image: &Image<'_>, trace: &Trace) -> Result<(), Fail<InputFault
 fn show_trace(
     alloc: Global,
     image: &Image<'_>,
-    lines: &LineTable<'_>,
+    lines: LineTable<'_>,
     structure: &Structure<'_>,
     trace: &Trace,
     depth: u32,
@@ -59,10 +59,11 @@ fn show_trace(
     requires look { IsLook depth cells }
     requires finished { AreFinished trace.now }
     ensures { IfOk result (λ text. text
-        ≡ timeline_by (record { structure = structure.now; lines = lines.now; image = image.now }) trace.now
+        ≡ timeline_by (record { structure = structure.now; lines = lines.entry; image = image.now }) trace.now
         depth cells) }
 {
-    let finder = Finder::of(alloc, structure, lines, image)?;
+    let lines = lines_of_trace(alloc, lines, trace)?;
+    let finder = finder_of_trace(alloc, structure, &lines, image, trace)?;
     let expander = Expander::of(alloc, &finder);
     timeline(alloc, trace, &expander, &finder, depth, cells)
 }
@@ -80,7 +81,7 @@ fn show_code(
     ensures { Gives (λ p. p) result (timed_code image.now trace.now depth cells) }
 {
     let (lines, structure) = scopes_of(alloc, image)?;
-    let text = show_trace(alloc, image, &lines, &structure, trace, depth, cells)?;
+    let text = show_trace(alloc, image, lines, &structure, trace, depth, cells)?;
     Ok(text_alone(alloc, text))
 }
 

@@ -1,12 +1,12 @@
 -- The ranges of items as spans, the events where they start and end, and what is open at an address.
-use Rattle.std.specs.Prelude.{◌≡◌, ◌≢◌, ◌⊎◌, ℕ, ◌<◌, ◌≤◌, Bool, false, List, [], ◌∷◌, drop}
+use Rattle.std.specs.Prelude.{◌≡◌, ◌≢◌, ◌⊎◌, ℕ, ◌<◌, ◌≤◌, ◌&&◌, Bool, false, List, [], ◌∷◌, drop}
 use Rattle.std.specs.Prelude.{Option, Some, None, slice_get, slice_index_or}
 use Rattle.std.specs.List.{flat_map, Contains}
 use Rattle.dwarf_inline.specs.declared.subroutine.Subroutine.{Subroutine}
 use Rattle.dwarf_inline.specs.Structure.{ProgramStructure}
 use Rattle.scope_find.specs.declared.span.Span.{Span}
 use Rattle.scope_find.specs.declared.span.Event.{Event}
-use Rattle.scope_find.specs.Found.{Numbered, numbered, item_ranges, subprogram_at, inlined_before, inlined_into}
+use Rattle.scope_find.specs.Found.{Numbered, numbered, item_ranges, item_holds, subprogram_at, inlined_before, inlined_into}
 
 -- ---- spans
 
@@ -128,6 +128,10 @@ item_at s number = slice_index_or s.items number no_item
 -- the calls that are inlined at an address into the item with a number
 abbrev pub into_number : ProgramStructure → ℕ → ℕ → List Subroutine
 into_number s address number = inlined_into s address (number, item_at s number)
+
+-- an item is a call that is inlined at the address
+abbrev pub called : ProgramStructure → ℕ → ℕ → Bool
+called s address k = (item_at s k).inlined && item_holds s address (item_at s k)
 
 -- the same of a subprogram, where there is one
 abbrev pub calls_at : ProgramStructure → ℕ → Option ℕ → List Subroutine

@@ -4,7 +4,6 @@ use Rattle.struct_listing.specs.Listing.{inlined_level}
 use Rattle.struct_listing.specs.declared.listed.ListedInline.{ListedInline}
 use Rattle.struct_listing.specs.private.Parts.{scopes_of}
 use Rattle.struct_listing.proofs.InlineLines.{IsListedAt, all_lines, level_of, line_more, one_listed}
-use Rattle.struct_listing.proofs.Lists.{item_placed}
 use Rattle.struct_listing.proofs.inlines.put_inlines.Goals as goal
 
 abbrev nothing : ListedInline
@@ -28,10 +27,6 @@ subroutine-callee-requires c =
     let known : IsListedAt s c.args.subprogram c.args.item c.loop-inline.inline-index l =
     one_listed s c.args.subprogram c.args.item below c.loop-inline.inline-index nothing (c.listed_below-below.ensures s c.requires.listed) c.loop-inline-test.true in
     slice_get_within s.items l.number known.callee known.there
-
-pub put_inline-requires-clause-placed : goal.put_inline-requires-clause-placed
-put_inline-requires-clause-placed c =
-    item_placed c.args.program.structure.now (get_or c.listed_below-below.result.now c.loop-inline.inline-index nothing).number c.subroutine-callee.result c.requires.whole c.subroutine-callee.ensures
 
 pub loop-inline-preserved : goal.loop-inline-preserved
 loop-inline-preserved c =

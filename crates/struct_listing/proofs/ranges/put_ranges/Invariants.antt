@@ -1,7 +1,6 @@
 use Rattle.std.proofs.Common.{◌≡◌, ◌++◌, take}
-use Rattle.scope_find.specs.Found.{item_ranges}
 use Rattle.struct_listing.specs.Listing.{ranges_text}
 use Rattle.struct_listing.proofs.ranges.put_ranges.Given as goal
 
 abbrev pub invariant-loop-at : goal.invariant-loop-at
-invariant-loop-at l = l.out.items ≡ l.fn.out.items ++ ranges_text (take l.at (item_ranges l.structure l.item))
+invariant-loop-at l = l.out.items ≡ l.fn.out.items ++ ranges_text (take l.at l.ranges)

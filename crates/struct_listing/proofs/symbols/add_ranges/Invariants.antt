@@ -1,7 +1,6 @@
 use Rattle.std.proofs.Common.{◌≡◌, ◌++◌, map, take}
-use Rattle.scope_find.specs.Found.{item_ranges}
 use Rattle.struct_listing.specs.private.Holders.{code_range}
 use Rattle.struct_listing.proofs.symbols.add_ranges.Given as goal
 
-abbrev pub invariant-loop-at : goal.invariant-loop-at
-invariant-loop-at l = l.ranges.items ≡ l.fn.ranges.items ++ map code_range (take l.at (item_ranges l.structure l.item))
+abbrev pub invariant-loop-range : goal.invariant-loop-range
+invariant-loop-range l = l.ranges.items ≡ l.fn.ranges.items ++ map code_range (take l.range-index l.pairs)

@@ -1,14 +1,10 @@
 use Rattle.std.proofs.Common.{◌∙◌, arith}
-use Rattle.struct_listing.proofs.Lists.{item_placed}
 use Rattle.struct_listing.proofs.Holding.{item_added, all_added}
 use Rattle.struct_listing.proofs.symbols.subprogram_ranges.Goals as goal
 
-pub add_subprogram-requires-clause-placed : goal.add_subprogram-requires-clause-placed
-add_subprogram-requires-clause-placed c = item_placed c.args.structure.now c.loop-number.number c.subroutine.result c.len-number-end.ensures.whole c.subroutine.ensures
-
 pub loop-number-preserved : goal.loop-number-preserved
 loop-number-preserved c =
-    item_added c.args.structure.now c.loop-number.number c.subroutine.result c.loop-number.ranges.items c.add_subprogram.new.ranges.items c.subroutine.ensures c.loop-number.invariant c.in_ok-add_subprogram.ensures
+    item_added c.args.structure.now c.loop-number.number c.subroutine-item.result c.loop-number.ranges.items c.add_subprogram.new.ranges.items c.subroutine-item.ensures c.loop-number.invariant c.in_ok-add_subprogram.ensures
 
 pub returns : goal.returns
 returns c = c.loop-number.invariant ∙ all_added c.args.structure.now c.loop-number.number (omega (arith, c.len-number-end.ensures.count))
