@@ -6,13 +6,13 @@ from files import declaration, uleb, unit
 from loads import ascending, elf, rows, running, structure
 from row_files import BASE, words
 
-DW_TAG_compile_unit, DW_TAG_inlined_subroutine, DW_TAG_variable = 0x11, 0x1D, 0x34
+DW_TAG_compile_unit, DW_TAG_inlined_subroutine, DW_TAG_subprogram, DW_TAG_variable = 0x11, 0x1D, 0x2E, 0x34
 DW_AT_name, DW_AT_stmt_list, DW_AT_low_pc, DW_AT_high_pc = 0x03, 0x10, 0x11, 0x12
 DW_AT_abstract_origin, DW_AT_specification, DW_AT_ranges = 0x31, 0x47, 0x55
-DW_AT_call_file, DW_AT_call_line = 0x58, 0x59
+DW_AT_call_file, DW_AT_call_line, DW_AT_rnglists_base = 0x58, 0x59, 0x74
 DW_FORM_addr, DW_FORM_data4, DW_FORM_string = 0x01, 0x06, 0x08
 DW_FORM_data1, DW_FORM_strp, DW_FORM_udata, DW_FORM_ref4, DW_FORM_sec_offset = 0x0B, 0x0E, 0x0F, 0x13, 0x17
-DW_FORM_flag_present, DW_FORM_line_strp = 0x19, 0x1F
+DW_FORM_flag_present, DW_FORM_line_strp, DW_FORM_rnglistx = 0x19, 0x1F, 0x23
 DW_LNCT_path, DW_LNCT_directory_index = 0x01, 0x02
 DW_RLE_offset_pair, DW_RLE_start_length = 0x04, 0x07
 RANGE = [(DW_AT_low_pc, DW_FORM_addr), (DW_AT_high_pc, DW_FORM_data4)]
@@ -184,6 +184,33 @@ def kept_ranges(count):
     return listed(count, (bytes([DW_RLE_start_length]) + words(BASE) + b"\4") * count)
 
 
+def overlapping(count, tag, **how):
+    """Items that name ends of one list of ranges, a word each, which begin a range later for each item."""
+    table = declaration(1, [(DW_AT_ranges, DW_FORM_sec_offset)], False, tag) + b"\0"
+    ranges = rows(count, bytes([DW_RLE_start_length]), ascending(BASE, 4, count), b"\4") + b"\0"
+    return elf(info=unit(rows(count, b"\1", ascending(0, 6, count))), abbrev=table, rnglists=ranges, **how)
+
+
+def overlapping_ranges(count):
+    """Inlined subroutines outside of subprograms that name ends of one list."""
+    return structure(overlapping(count, DW_TAG_inlined_subroutine, size=max(4 * count, 84)))
+
+
+def live_overlapping_ranges(count):
+    """Subprograms that name ends of one list, and a run that samples each word of it."""
+    data = overlapping(count, DW_TAG_subprogram, code=[0x00150513] * (count + 1))
+    return running(data, f"harts 1\n0 {count + 1}\n", ("live",))._replace(tables=True)
+
+
+def short_items(count):
+    """Inlined subroutines of two bytes each, outside of subprograms, that name one list of four ranges by its index."""
+    table = (declaration(1, [(DW_AT_rnglists_base, DW_FORM_sec_offset)], True, DW_TAG_compile_unit)
+             + declaration(2, [(DW_AT_ranges, DW_FORM_rnglistx)], False, DW_TAG_inlined_subroutine) + b"\0")
+    ranges = (bytes([DW_RLE_start_length]) + words(BASE) + b"\4") * 4 + b"\0"
+    info = unit(b"\1" + words(0) + b"\2\0" * count)
+    return structure(elf(info=info, abbrev=table, rnglists=words(4) + ranges))
+
+
 # ---- line tables
 
 NO_NAMES = b"\0" + uleb(0)
@@ -266,10 +293,18 @@ def shared_program(count):
     return structure(of_shared_program(count))._replace(tables=True)
 
 
-def searched_program(count):
+def searched(count, command):
     """A hundred line tables that share a program, and a run that samples addresses that no table has."""
     data = of_shared_program(100, code=[0x00150513] * (count + 1))
-    return running(data, f"harts 1\n0 {count + 1}\n", ("profile",))
+    return running(data, f"harts 1\n0 {count + 1}\n", command)._replace(tables=True)
+
+
+def searched_program(count):
+    return searched(count, ("profile",))
+
+
+def live_searched_program(count):
+    return searched(count, ("live",))
 
 
 def sequences(count):

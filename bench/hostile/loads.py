@@ -20,10 +20,12 @@ MOST_SAMPLES = 1 << 20
 FOUR_FRAMES = 8388608 // 9
 # With these two words behind any others the hash of a list becomes the same.
 COLLIDING = (0x7F4A7C15, 0x9E3779B9)
+# What the words of a command have before the file that it stores.
+BEHIND = {"profile": ["2"], "live": ["2", "1024"]}
 # The end of a function's symbol.
 ABSOLUTE_FUNCTION = struct.pack("<BBH", 0x12, 0, row_files.ABSOLUTE)
 
-# `tables` says that the definition has the same bytes read for many tables, `guests` that what is taken is the guest's.
+# `tables` says that the definition has the same bytes read for many tables or lists, `guests` that what is taken is the guest's.
 Load = namedtuple("Load", "words files tables guests", defaults=(False, False))
 NAMES = {"info": b".debug_info", "abbrev": b".debug_abbrev", "rnglists": b".debug_rnglists", "line": b".debug_line",
          "text": b".debug_str", "line_text": b".debug_line_str"}
@@ -44,8 +46,8 @@ def structure(data, **how):
 
 def running(data, text="harts 1\n0 100\n", command=("run",), period="1", given=b""):
     names = ["program", "input", "schedule", period]
-    behind = ["2", "stored"] if command[0] == "profile" else ["stored"]
-    return Load([*command, *names, *behind], {"program": data, "input": given, "schedule": text.encode()})
+    kept = {"program": data, "input": given, "schedule": text.encode()}
+    return Load([*command, *names, *BEHIND.get(command[0], []), "stored"], kept)
 
 
 # ---- many rows at once
