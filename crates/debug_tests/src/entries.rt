@@ -171,10 +171,10 @@ fn have_tables(info: &Info<'_>, entries: &[InfoEntry]) -> bool {
 /// Whether the outline has a subroutine of this offset and this depth, which is inlined or not.
 fn is_outlined(info: &Info<'_>, outline: &Outline, wanted: (u32, u32, bool)) -> bool {
     for entry in outline.subroutines.as_slice() {
-        let depth = outline.depths.get(entry.index as usize).copied();
-        if (entry.offset, depth, entry.inlined) == (wanted.0, Some(wanted.1), wanted.2) {
-            return match info.entry(entry.index) {
-                Some(found) => found.offset() == entry.offset,
+        let depth = outline.depths.get(entry.index() as usize).copied();
+        if (entry.offset(), depth, entry.is_inlined()) == (wanted.0, Some(wanted.1), wanted.2) {
+            return match info.entry(entry.index()) {
+                Some(found) => found.offset() == entry.offset(),
                 None => false,
             };
         }

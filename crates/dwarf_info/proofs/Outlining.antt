@@ -12,8 +12,7 @@ use Rattle.dwarf_info.specs.declared.entry.InfoEntry.{InfoEntry}
 use Rattle.dwarf_info.specs.declared.entry.UnitContext.{UnitContext}
 use Rattle.dwarf_info.specs.declared.fault.InfoFault.{InfoFault}
 use Rattle.dwarf_info.specs.declared.outline.Outline.{Outline}
-use Rattle.dwarf_info.specs.declared.outline.SubroutineEntry.{SubroutineEntry}
-use Rattle.dwarf_info.specs.Subroutines.{Indexed, is_item, subroutine_entry}
+use Rattle.dwarf_info.specs.Subroutines.{Indexed, SubroutineEntry, is_item, subroutine_entry}
 use Rattle.dwarf_info.specs.private.Indexed.{offsets_of}
 use Rattle.dwarf_info.specs.private.Outlines.{items_from, AreOutlined}
 use Rattle.dwarf_info.proofs.Bodies.{before_none}

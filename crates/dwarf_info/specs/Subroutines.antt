@@ -3,7 +3,6 @@ use Rattle.std.specs.Prelude.{ℕ, ◌==◌, ◌||◌, Bool, List, filter}
 use Rattle.std.specs.List.{enumerate_from}
 use Rattle.dwarf_info.specs.declared.constants.TheConstants.{DW_TAG_subprogram, DW_TAG_inlined_subroutine}
 use Rattle.dwarf_info.specs.declared.entry.InfoEntry.{InfoEntry}
-use Rattle.dwarf_info.specs.declared.outline.SubroutineEntry.{SubroutineEntry}
 use Rattle.dwarf_info.specs.Units.{DebugInfo}
 
 -- DW_TAG_subprogram (section 3.3)
@@ -30,6 +29,12 @@ indexed info = enumerate_from 0 info.entries
 abbrev pub item_entries : DebugInfo → List Indexed
 item_entries info = filter (λ e. is_item e.1) (indexed info)
 
--- what is kept of one of them
+-- what is kept of one of them: its index, its offset, and whether it is an inlined subroutine
+pub record SubroutineEntry : Type 0 where
+  pub index : ℕ
+  pub offset : ℕ
+  pub inlined : Bool
+
+-- an entry as it is kept
 abbrev pub subroutine_entry : Indexed → SubroutineEntry
 subroutine_entry e = record { index = e.0; offset = e.1.offset; inlined = is_inlined e.1 }

@@ -6,3 +6,4 @@ pub mod Parts
 pub mod Located
 pub mod Outlines
 pub mod CodeLists
+pub mod Marked

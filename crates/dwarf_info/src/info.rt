@@ -19,10 +19,11 @@ use crate::fault::InfoFault;
 use crate::indices::referred;
 use crate::located::{Entry, Located};
 use crate::offsets::{Offsets, count_near};
-use crate::outline::{Outline, SubroutineEntry, add_outline};
+use crate::outline::{Outline, add_outline};
 use crate::range_source::{ListPlace, list_at, place_ranges};
 use crate::ranges::{high_pc_value, rnglist_offset};
 use crate::starts::Starts;
+use crate::subroutine_entry::SubroutineEntry;
 use crate::tables::Tables;
 use crate::unit_entries::{add_entries, declared_at, tabled_value};
 use crate::units::{named_tables, read_units};
@@ -135,7 +136,7 @@ impl<'a> Info<'a> {
         requires { option_map (λ e. e.offset) (slice_get self.now.entries item.now.index) ≡ Some item.now.offset }
         ensures { result ≡ entry_with self.now item.now.index }
     {
-        let at = self.located(item.index, item.offset, near);
+        let at = self.located(item.index(), item.offset(), near);
         Entry { info: self, at }
     }
 
@@ -216,14 +217,17 @@ impl<'a> Info<'a> {
         list_at(&self.sections, at.context.addr_base, base, offset)
     }
 
-    /// The ranges of the list that `DW_AT_ranges` gives, and the list, unless it is malformed.
+    /// The ranges of the list that `DW_AT_ranges` gives, which was found, and the list, unless it is malformed.
     #[tactic(auto, using(crate::proofs::Bounds::ranges_bound))]
     pub(crate) fn range_list(
         &self,
         alloc: Global,
         at: &Located<'_>,
+        list: Option<ListPlace>,
     ) -> Result<Option<(Vec<(u32, u32)>, ListPlace)>, Memory>
-        requires { IsLocated self.now at.now }
+        requires at { IsLocated self.now at.now }
+        requires list { option_and_then (place_ranges self.now.sections) list
+            ≡ option_and_then (attribute_ranges self.now) (unit_entry self.now at.now.index) }
         ensures list { IfOk result (λ o. option_map (λ r. r.0.items) o
             ≡ option_and_then (attribute_ranges self.now) (unit_entry self.now at.now.index)) }
         ensures place { IfOk result (λ o. option_and_then (λ r. place_ranges self.now.sections r.1) o
@@ -232,7 +236,7 @@ impl<'a> Info<'a> {
     {
         // The bound rests on the sections, which the checker sees once they are named.
         let _ = &self.sections;
-        let Some(place) = self.list_place(at) else {
+        let Some(place) = list else {
             return Ok(None);
         };
         match place_ranges(alloc, &self.sections, place)? {

@@ -3,7 +3,7 @@ ghost use Rattle.std.specs.Prelude.{◌≡◌, ◌<◌, ◌^◌, length, IfOk, S
 ghost use Rattle.std.specs.Prelude.{slice_get, List, ℕ};
 ghost use Rattle.dwarf_forms.specs.Sections.{section_text};
 ghost use Rattle.dwarf_info.specs.Queries.{unit_entry, entry_with, name_of, link_of, call_site_of};
-ghost use Rattle.dwarf_info.specs.Ranges.{place_ranges, ranges_of, source_ranges};
+ghost use Rattle.dwarf_info.specs.Ranges.{attribute_ranges, place_ranges, ranges_of, source_ranges};
 ghost use Rattle.dwarf_info.specs.declared.range_source.ListPlace.{ListPlace};
 ghost use Rattle.dwarf_info.specs.declared.range_source.RangeSource.TheVariants.{Listed};
 
@@ -171,21 +171,29 @@ impl<'i, 'a> Entry<'i, 'a> {
         ensures ranges { IfOk result (λ ranges. ranges ≡ ranges_of self.now.info self.now.index) }
         ensures few { length (ranges_of self.now.info self.now.index) < 2 ^ 31 }
     {
-        let (ranges, _) = self.ranges_with_source(alloc)?;
+        let (ranges, _) = self.ranges_with_source(alloc, self.list_place())?;
         Ok(ranges)
     }
 
     /// The range list that `DW_AT_ranges` gives: its ranges are those of the entry, unless it is malformed.
     pub fn list_place(&self) -> Option<ListPlace>
-        ensures { (place : ListPlace) (ranges : List (ℕ × ℕ)) → result ≡ Some place
+        ensures ranges { (place : ListPlace) (ranges : List (ℕ × ℕ)) → result ≡ Some place
             → place_ranges self.now.info.sections place ≡ Some ranges
             → ranges_of self.now.info self.now.index ≡ ranges }
+        ensures list { option_and_then (place_ranges self.now.info.sections) result
+            ≡ option_and_then (attribute_ranges self.now.info) (unit_entry self.now.info self.now.index) }
     {
         self.info.list_place(&self.at)
     }
 
-    /// Its address ranges, as `ranges` has them, and where they come from.
-    pub fn ranges_with_source(&self, alloc: Global) -> Result<(Ranges, RangeSource), Memory>
+    /// Its address ranges, as `ranges` has them, and where they come from, by its range list, which was found.
+    pub fn ranges_with_source(
+        &self,
+        alloc: Global,
+        list: Option<ListPlace>,
+    ) -> Result<(Ranges, RangeSource), Memory>
+        requires { option_and_then (place_ranges self.now.info.sections) list
+            ≡ option_and_then (attribute_ranges self.now.info) (unit_entry self.now.info self.now.index) }
         ensures ranges { IfOk result (λ r. r.0 ≡ ranges_of self.now.info self.now.index) }
         ensures source { IfOk result (λ r. source_ranges self.now.info.sections r.1
             ≡ ranges_of self.now.info self.now.index) }
@@ -193,7 +201,7 @@ impl<'i, 'a> Entry<'i, 'a> {
             → place_ranges self.now.info.sections place ≡ Some (ranges_of self.now.info self.now.index)) }
         ensures few { length (ranges_of self.now.info self.now.index) < 2 ^ 31 }
     {
-        match self.info.range_list(alloc, &self.at)? {
+        match self.info.range_list(alloc, &self.at, list)? {
             Some((pairs, place)) => Ok((Ranges::from_vec(pairs), RangeSource::Listed(place))),
             None => {
                 let range = self.info.low_high_pc(&self.at);

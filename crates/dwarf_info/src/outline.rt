@@ -15,25 +15,15 @@ use crate::constants::{DW_TAG_inlined_subroutine, DW_TAG_subprogram};
 use crate::entries::read_entry;
 use crate::entry::{InfoEntry, UnitContext};
 use crate::fault::InfoFault;
+use crate::subroutine_entry::SubroutineEntry;
 use crate::tables::{Tables, read_again};
 use dwarf_forms::Declarations;
 use elf_image::DebugParts;
 use prof_bytes::{Memory, Reader};
 use std::alloc::Global;
 
-/// A subprogram or an inlined subroutine among the entries (DWARF 5, section 3.3).
-#[derive(Clone, Copy, Debug)]
-pub struct SubroutineEntry {
-    /// Its index among the entries of all units.
-    pub index: u32,
-    /// The offset of the entry in `.debug_info`.
-    pub offset: u32,
-    /// Whether it is an inlined subroutine.
-    pub inlined: bool,
-}
-
 /// How deep each entry is, and which entries are subprograms or inlined subroutines. It takes 4 bytes for each entry,
-/// and 12 for each of these.
+/// and 8 for each of these.
 #[derive(Drop)]
 pub struct Outline {
     /// The depth of each entry; the first entry of a unit has depth 0.
@@ -61,11 +51,10 @@ fn add_entry(outline: &mut Outline, entry: InfoEntry) -> Result<(), Memory>
 {
     if is_item(&entry) {
         let index = outline.depths.len() as u32;
-        outline.subroutines.push(SubroutineEntry {
-            index,
-            offset: entry.offset,
-            inlined: is_inlined(&entry),
-        })?;
+        let inlined = is_inlined(&entry);
+        outline
+            .subroutines
+            .push(SubroutineEntry::new(index, entry.offset, inlined))?;
     }
     outline.depths.push(entry.depth)?;
     Ok(())

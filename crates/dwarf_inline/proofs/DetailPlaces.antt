@@ -6,9 +6,8 @@ use Rattle.std.proofs.lemmas.List.{get_or_append_left}
 use Rattle.std.proofs.lemmas.Bool.{cases_lt}
 use Rattle.std.proofs.lemmas.Option.{slice_get_within}
 use Rattle.elf_image.specs.Image.{ProgramImage}
-use Rattle.dwarf_info.specs.declared.outline.SubroutineEntry.{SubroutineEntry}
+use Rattle.dwarf_info.specs.Subroutines.{Indexed, SubroutineEntry, item_entries, subroutine_entry}
 use Rattle.dwarf_info.specs.Units.{DebugInfo}
-use Rattle.dwarf_info.specs.Subroutines.{Indexed, item_entries, subroutine_entry}
 use Rattle.dwarf_line.specs.Lines.{Lines}
 use Rattle.dwarf_inline.specs.declared.details.Detail.{Detail}
 use Rattle.dwarf_inline.specs.Structure.{ranges_before}

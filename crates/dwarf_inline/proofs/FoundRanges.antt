@@ -1,11 +1,13 @@
 -- Ranges that are found, as what is kept of them grows.
-use Rattle.std.proofs.Common.{◌≡◌, ℕ, zero, suc, ◌+◌, ◌-◌, ◌<◌, ◌≤◌, Bool, true, false, List, [], ◌∷◌, ◌++◌, length, take, drop, get_or, Some, inl, inr, refl, sym, ap, ◌∙◌, subst, arith, length-append}
-use Rattle.std.specs.Prelude.{filter, nat_lt, slice_get, if◌then◌else◌}
+use Rattle.std.proofs.Common.{◌≡◌, ℕ, zero, suc, ◌+◌, ◌-◌, ◌<◌, ◌≤◌, ◌^◌, Bool, true, false, List, [], ◌∷◌, ◌++◌, length, take, drop, get_or, Some, inl, inr, refl, sym, ap, ◌∙◌, subst, arith, length-append}
+use Rattle.std.specs.Prelude.{filter, not, sum_by, nat_lt, slice_get, if◌then◌else◌}
 use Rattle.std.specs.List.{flat_map}
 use Rattle.std.proofs.Math.Seq.{get_or-append_seam, take-length, drop-append_seam, take-append_seam, drop-append-add}
 use Rattle.std.proofs.lemmas.Grind.{flat_map-append}
 use Rattle.std.proofs.lemmas.List.{get_or_append_left, append-nil, length-drop, take-append-le, drop-append-le}
+use Rattle.std.proofs.lemmas.List.Filters.{length-filter_both}
 use Rattle.std.proofs.lemmas.List.Folds.{length-flat_map-take}
+use Rattle.std.proofs.lemmas.List.Sums.{sum_by-cons}
 use Rattle.std.proofs.lemmas.Bool.{cases_lt}
 use Rattle.std.proofs.lemmas.Bool.Decides.{nat_tests}
 use Rattle.std.proofs.lemmas.Option.{slice_get_within, slice_get-get_or, same_Some}
@@ -30,6 +32,16 @@ pub part_stays : {X : Type 0} (first count : ℕ) (xs ys : List X) → first + c
 part_stays first count xs ys within =
     ap (take count) (drop-append-le first xs ys (omega arith))
     ∙ take-append-le count (drop first xs) ys (omega (arith, length-drop first xs))
+
+-- what was appended
+pub tail_is : {X : Type 0} (xs ys zs : List X) (at : ℕ) → zs ≡ xs ++ ys → at ≡ length xs → take (length zs - at) (drop at zs) ≡ ys
+tail_is xs ys zs at same first =
+    let long : length zs - at ≡ length ys = omega (arith, ap length same, length-append xs ys) in
+    rw (long, same, first, drop-append_seam xs ys) (take-length ys)
+
+-- no more pass than there are
+pub filter_few : {X : Type 0} (p : X → Bool) (xs : List X) → length (filter p xs) ≤ length xs
+filter_few p xs = omega (arith, length-filter_both p (λ x. not (p x)) (λ x. refl) xs)
 
 older : (details : List Detail) (d : Detail) (k : ℕ) → k < length details → detail_at (details ++ d ∷ []) k ≡ detail_at details k
 older details d k lt = get_or_append_left details (d ∷ []) no_detail k lt
@@ -79,6 +91,7 @@ still_own s more sources f own is = record {
   there = still_there s more sources f.at f.count is.there;
   ranges = ranges_stay s more sources f.at f.count is.there ∙ is.ranges;
   first = is.first;
+  few = is.few;
 }
 
 still_known : (s : Store) (more : List (ℕ × ℕ)) (sources : List RangeSource) (l : KnownList) → IsKnown s l → IsKnown (grown s more sources) l
@@ -128,6 +141,19 @@ found_more s details d are there first = record {
   ];
 }
 
+-- their number is the sum of those of all
+pub all_counted : (s : Store) (details : List Detail) → ((k : ℕ) → k < length details → IsThere s (detail_at details k).at (detail_at details k).range_count)
+    → sum_by (λ d. d.range_count) details ≡ length (all_ranges s details)
+all_counted s [] there = refl
+all_counted s (d ∷ details) there =
+    omega (
+      arith,
+      sum_by-cons (λ (d : Detail). d.range_count) d details,
+      (there 0 (omega arith)).count,
+      length-append (own_ranges s d) (all_ranges s details),
+      all_counted s details (λ k lt. there (suc k) (omega arith)),
+    )
+
 -- a detail that was there, and begins where all end, has no range
 nothing_more : (s : Store) (details : List Detail) (d : Detail) (place : ℕ) → AreFound s details → slice_get details place ≡ Some d → d.first_range ≡ length (all_ranges s details) → own_ranges s d ≡ []
 nothing_more s details d place are there first =
@@ -174,9 +200,9 @@ own_part s details k are lt =
 
 -- ---- one more is kept
 
-pub kept_new : (sections : Sections) (segments : List Segment) (ranges own : List (ℕ × ℕ)) (sources : List RangeSource) (f : FoundRanges) → f.at ≡ length ranges → f.at < first_source → f.count ≡ length own → f.first ≡ first_start own
+pub kept_new : (sections : Sections) (segments : List Segment) (ranges own : List (ℕ × ℕ)) (sources : List RangeSource) (f : FoundRanges) → f.at ≡ length ranges → f.at < first_source → f.count ≡ length own → f.first ≡ first_start own → f.count < 2 ^ 31
     → IsStored (stored sections segments ranges sources) f own (stored sections segments (ranges ++ own) sources)
-kept_new sections segments ranges own sources f at lt count first =
+kept_new sections segments ranges own sources f at lt count first few =
     let is : ranges_at (stored sections segments (ranges ++ own) sources) f.at f.count ≡ own = rw (low f.at lt, at, count, drop-append_seam ranges own) (take-length own) in
     record {
       grows = record { ranges = own; sources = []; is = rw (append-nil sources) refl };
@@ -184,13 +210,14 @@ kept_new sections segments ranges own sources f at lt count first =
         there = record { kept = λ less. omega (arith, length-append ranges own); again = λ ge. absurd (omega arith); count = ap length is ∙ sym count };
         ranges = is;
         first = first;
+        few = few;
       };
     }
 
 pub unkept_new : (sections : Sections) (segments : List Segment) (ranges own : List (ℕ × ℕ)) (sources : List RangeSource) (source : RangeSource) (f : FoundRanges) → counted_source sections segments source ≡ own
-    → f.at ≡ first_source + length sources → f.count ≡ length own → f.first ≡ first_start own
+    → f.at ≡ first_source + length sources → f.count ≡ length own → f.first ≡ first_start own → f.count < 2 ^ 31
     → IsStored (stored sections segments ranges sources) f own (stored sections segments ranges (sources ++ source ∷ []))
-unkept_new sections segments ranges own sources source f gives at count first =
+unkept_new sections segments ranges own sources source f gives at count first few =
     let ge : first_source ≤ f.at = omega arith in
     let back : f.at - first_source ≡ length sources = omega arith in
     let is : ranges_at (stored sections segments ranges (sources ++ source ∷ [])) f.at f.count ≡ own =
@@ -201,6 +228,7 @@ unkept_new sections segments ranges own sources source f gives at count first =
         there = record { kept = λ less. absurd (omega arith); again = λ le. omega (arith, one_longer sources source); count = ap length is ∙ sym count };
         ranges = is;
         first = first;
+        few = few;
       };
     }
 

@@ -6,9 +6,8 @@ use Rattle.std.proofs.lemmas.List.{length-map, get_or-map}
 use Rattle.std.proofs.lemmas.Grind.{same_number_lists}
 use Rattle.std.proofs.lemmas.Bool.{cases_lt}
 use Rattle.dwarf_info.specs.declared.entry.InfoEntry.{InfoEntry}
-use Rattle.dwarf_info.specs.declared.outline.SubroutineEntry.{SubroutineEntry}
+use Rattle.dwarf_info.specs.Subroutines.{Indexed, SubroutineEntry, item_entries, subroutine_entry}
 use Rattle.dwarf_info.specs.Units.{DebugInfo}
-use Rattle.dwarf_info.specs.Subroutines.{Indexed, item_entries, subroutine_entry}
 use Rattle.dwarf_inline.specs.Nesting.{end_of, item_after}
 use Rattle.dwarf_inline.specs.private.Ends.{AreEndsFrom, AreAftersFrom, after_at, depths_of, end_at}
 use Rattle.dwarf_inline.proofs.Items.{item_there, item_end, end_there, after_between, after_ends, after_inside}
@@ -40,27 +39,42 @@ kept_offset info items k d same lt =
     subst (λ (s : SubroutineEntry). option_map (λ (e : InfoEntry). e.offset) (slice_get info.entries s.index) ≡ Some s.offset) (sym (kept_at info items k d same lt))
     (ap (λ (o : Option InfoEntry). option_map (λ (e : InfoEntry). e.offset) o) there)
 
+-- ---- an item that was read
+
+pub item_kept : (info : DebugInfo) (items : List SubroutineEntry) (k : ℕ) (item : SubroutineEntry) → Kept info items → k < length items → item ≡ get_or items k item
+    → item ≡ subroutine_entry (get_or (item_entries info) k nothing)
+item_kept info items k item same lt is = is ∙ kept_at info items k item same lt
+
+pub item_offset : (info : DebugInfo) (items : List SubroutineEntry) (k : ℕ) (item : SubroutineEntry) → Kept info items → k < length items → item ≡ get_or items k item
+    → option_map (λ (e : InfoEntry). e.offset) (slice_get info.entries item.index) ≡ Some item.offset
+item_offset info items k item same lt is =
+    subst (λ (s : SubroutineEntry). option_map (λ (e : InfoEntry). e.offset) (slice_get info.entries s.index) ≡ Some s.offset) (sym is) (kept_offset info items k item same lt)
+
+pub item_index : (info : DebugInfo) (items : List SubroutineEntry) (k : ℕ) (item : SubroutineEntry) → Kept info items → k < length items → item ≡ get_or items k item
+    → item.index ≡ (get_or (item_entries info) k nothing).0
+item_index info items k item same lt is = ap (λ (s : SubroutineEntry). s.index) (item_kept info items k item same lt is)
+
 -- ---- the item after one
 
-pub end_within_ends : (info : DebugInfo) (items : List SubroutineEntry) (ends : List ℕ) (k : ℕ) (d : SubroutineEntry) → Kept info items → AreEndsFrom (depths_of info) 0 ends → k < length items
-    → (get_or items k d).index < length ends
-end_within_ends info items ends k d same are lt =
-    omega (arith, kept_index info items k d same lt, end_there info (item_entries info) ends k nothing refl are (omega (arith, kept_long info items same)))
+pub end_within_ends : (info : DebugInfo) (items : List SubroutineEntry) (ends : List ℕ) (k index : ℕ) (item : SubroutineEntry) → Kept info items → AreEndsFrom (depths_of info) 0 ends → k < length items
+    → item ≡ get_or items k item → index ≡ item.index → index < length ends
+end_within_ends info items ends k index item same are lt is at =
+    omega (arith, at, item_index info items k item same lt is, end_there info (item_entries info) ends k nothing refl are (omega (arith, kept_long info items same)))
 
-pub end_is : (info : DebugInfo) (items : List SubroutineEntry) (ends : List ℕ) (k : ℕ) (d : SubroutineEntry) → Kept info items → AreEndsFrom (depths_of info) 0 ends → k < length items
-    → get_or ends (get_or items k d).index 0 ≡ end_of info (get_or (item_entries info) k nothing)
-end_is info items ends k d same are lt =
-    ap (λ (n : ℕ). get_or ends n 0) (kept_index info items k d same lt)
+pub end_is : (info : DebugInfo) (items : List SubroutineEntry) (ends : List ℕ) (k index : ℕ) (item : SubroutineEntry) → Kept info items → AreEndsFrom (depths_of info) 0 ends → k < length items
+    → item ≡ get_or items k item → index ≡ item.index → get_or ends index 0 ≡ end_of info (get_or (item_entries info) k nothing)
+end_is info items ends k index item same are lt is at =
+    ap (λ (n : ℕ). get_or ends n 0) (at ∙ item_index info items k item same lt is)
     ∙ item_end info (item_entries info) ends k nothing refl are (omega (arith, kept_long info items same))
 
 -- one step on among the items after one
-pub after_step : (info : DebugInfo) (items : List SubroutineEntry) (afters : List ℕ) (k after end : ℕ) (d : SubroutineEntry) → Kept info items → AreAftersFrom info (k + 1) afters
-    → end ≡ end_at info k → k < after → after < length items → (get_or items after d).index < end
+pub after_step : (info : DebugInfo) (items : List SubroutineEntry) (afters : List ℕ) (k after end index : ℕ) (item : SubroutineEntry) → Kept info items → AreAftersFrom info (k + 1) afters
+    → end ≡ end_at info k → k < after → after < length items → item ≡ get_or items after item → index ≡ item.index → index < end
     → (after < get_or afters after 0) × (get_or afters after 0 ≤ length items) × (get_or afters after 0 ≤ after_at info k)
-after_step info items afters k after end d same are end_is behind within inside =
+after_step info items afters k after end index item same are end_is behind within is at inside =
     let long : length items ≡ length (item_entries info) = kept_long info items same in
     let near : after < length (item_entries info) = omega arith in
-    let index = kept_index info items after d same within in
+    let there = item_index info items after item same within is in
     let is : get_or afters after 0 ≡ after_at info after = are.are after (omega arith) near in
     let between = after_between info after nothing near in
     let first : after < after_at info after = between.0 in
@@ -68,10 +82,10 @@ after_step info items afters k after end d same are end_is behind within inside 
     let inner : after_at info after ≤ after_at info k = after_inside info k after nothing behind near (omega arith) in
     (omega arith, omega arith, omega arith)
 
-pub after_stops : (info : DebugInfo) (items : List SubroutineEntry) (k after end : ℕ) (d : SubroutineEntry) → Kept info items → end ≡ end_at info k
-    → after < length items → end ≤ (get_or items after d).index → after ≤ after_at info k → after ≡ after_at info k
-after_stops info items k after end d same end_is within past covered =
-    let index = kept_index info items after d same within in
+pub after_stops : (info : DebugInfo) (items : List SubroutineEntry) (k after end index : ℕ) (item : SubroutineEntry) → Kept info items → end ≡ end_at info k
+    → after < length items → item ≡ get_or items after item → index ≡ item.index → end ≤ index → after ≤ after_at info k → after ≡ after_at info k
+after_stops info items k after end index item same end_is within is at past covered =
+    let there = item_index info items after item same within is in
     let most : after_at info k ≤ after = after_ends info k after nothing (omega (arith, kept_long info items same)) (omega arith) in
     omega arith
 

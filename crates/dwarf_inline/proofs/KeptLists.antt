@@ -11,9 +11,8 @@ use Rattle.std.proofs.lemmas.Bool.{cases_lt, eqb-true, eq-eqb}
 use Rattle.std.proofs.lemmas.Option.{slice_get-get_or, slice_get_past, slice_get_within, get_or_from_slice_get}
 use Rattle.elf_image.specs.Image.{ProgramImage}
 use Rattle.elf_image.proofs.Checked.{find_none}
-use Rattle.dwarf_info.specs.declared.outline.SubroutineEntry.{SubroutineEntry}
+use Rattle.dwarf_info.specs.Subroutines.{Indexed, SubroutineEntry, is_inlined, item_entries, subroutine_entry}
 use Rattle.dwarf_info.specs.Units.{DebugInfo}
-use Rattle.dwarf_info.specs.Subroutines.{Indexed, is_inlined, item_entries, subroutine_entry}
 use Rattle.dwarf_line.specs.Lines.{Lines}
 use Rattle.scope_types.specs.declared.scope.LineId.{LineId}
 use Rattle.scope_types.specs.declared.scope.LineId.TheVariants.{Row, Address}

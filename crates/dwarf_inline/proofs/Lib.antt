@@ -13,3 +13,4 @@ pub mod Named
 pub mod KeptLists
 pub mod KeptAnswers
 pub mod HeldAddresses
+pub mod ShortDetails

@@ -6,14 +6,13 @@ use Rattle.std.proofs.lemmas.List.Sums.{length-filter, sum_by-take-drop, sum_by-
 use Rattle.std.proofs.lemmas.Bool.{lt-ltb, le-ltb, ltb-true, ne_eqb, eq-eqb, or_right}
 use Rattle.prof_bytes.proofs.Tests.{and_false}
 use Rattle.dwarf_info.specs.Units.{DebugInfo}
-use Rattle.dwarf_info.specs.Subroutines.{Indexed, indexed, is_item, is_inlined, item_entries, subroutine_entry}
+use Rattle.dwarf_info.specs.Subroutines.{Indexed, SubroutineEntry, indexed, is_inlined, is_item, item_entries, subroutine_entry}
 use Rattle.dwarf_inline.specs.Nesting.{end_of, is_below, inlined_levels}
-use Rattle.dwarf_info.specs.declared.outline.SubroutineEntry.{SubroutineEntry}
 use Rattle.dwarf_inline.specs.Structure.{checked_item}
 use Rattle.dwarf_inline.specs.private.Levels.{checked_entry, open_at, opened, is_open, AreOpen}
 use Rattle.dwarf_inline.proofs.Lists.{any_default, count_same, count_none, count_filter}
 use Rattle.dwarf_inline.proofs.Items.{Ascending, items_ascending}
-use Rattle.dwarf_inline.proofs.KeptEntries.{nothing, Kept, kept_long, kept_at}
+use Rattle.dwarf_inline.proofs.KeptEntries.{nothing, Kept, kept_long, kept_at, item_kept}
 use Rattle.dwarf_inline.proofs.CheckedItems.{entry_checked}
 
 pub levels_are : (p : ℕ → Bool) (old kept new : List ℕ) (end n : ℕ) → n ≡ length new → new ≡ kept ++ end ∷ [] → kept ≡ filter p old → n ≡ count_by p old + 1
@@ -128,16 +127,17 @@ told info items k d ends same lt open_ends =
     ap (λ (s : SubroutineEntry). checked_entry info s (open_at s.index ends + 1)) (kept_at info items k d same lt)
     ∙ entry_checked info e (open_at e.0 ends + 1) (λ inlined. levels_now info (item_entries info) k nothing ends refl within open_ends inlined)
 
-pub opens_kept : (info : DebugInfo) (items : List SubroutineEntry) (k : ℕ) (d : SubroutineEntry) (end : ℕ) (old new : List ℕ) → Kept info items → k < length items
-    → end ≡ end_of info (get_or (item_entries info) k nothing) → AreOpen info (take k (item_entries info)) old → new ≡ opened (get_or items k d) end old
+pub opens_kept : (info : DebugInfo) (items : List SubroutineEntry) (k : ℕ) (item : SubroutineEntry) (end : ℕ) (old new : List ℕ) → Kept info items → k < length items → item ≡ get_or items k item
+    → end ≡ end_of info (get_or (item_entries info) k nothing) → AreOpen info (take k (item_entries info)) old → new ≡ opened item end old
     → AreOpen info (take (k + 1) (item_entries info)) new
-opens_kept info items k d end old new same lt is so_far are =
+opens_kept info items k item end old new same lt read is so_far are =
     opens_more info (item_entries info) k nothing end old new (omega (arith, kept_long info items same)) is so_far
-    (are ∙ ap (λ (s : SubroutineEntry). opened s end old) (kept_at info items k d same lt))
+    (are ∙ ap (λ (s : SubroutineEntry). opened s end old) (item_kept info items k item same lt read))
 
 -- the same of an entry of the same debug information
-pub told_of : (info own : DebugInfo) (items : List SubroutineEntry) (k : ℕ) (d : SubroutineEntry) (ends : List ℕ) → own ≡ info → Kept info items → k < length items
-    → AreOpen info (take k (item_entries info)) ends
-    → checked_entry own (get_or items k d) (open_at (get_or items k d).index ends + 1) ≡ checked_item info (get_or (item_entries info) k nothing)
-told_of info own items k d ends one same lt open_ends =
-    ap (λ (i : DebugInfo). checked_entry i (get_or items k d) (open_at (get_or items k d).index ends + 1)) one ∙ told info items k d ends same lt open_ends
+pub told_of : (info own : DebugInfo) (items : List SubroutineEntry) (k : ℕ) (item : SubroutineEntry) (ends : List ℕ) → own ≡ info → Kept info items → k < length items
+    → item ≡ get_or items k item → AreOpen info (take k (item_entries info)) ends
+    → checked_entry own item (open_at item.index ends + 1) ≡ checked_item info (get_or (item_entries info) k nothing)
+told_of info own items k item ends one same lt is open_ends =
+    ap (λ (i : DebugInfo). checked_entry i item (open_at item.index ends + 1)) one
+    ∙ ap (λ (s : SubroutineEntry). checked_entry info s (open_at s.index ends + 1)) is ∙ told info items k item ends same lt open_ends

@@ -5,3 +5,4 @@ pub mod Names
 pub mod Details
 pub mod Found
 pub mod Kept
+pub mod ShortDetails

@@ -1,23 +1,22 @@
 //! The ranges of the items, and what they add to an item.
 ghost use Rattle.std.specs.Prelude.{◌≡◌, ◌+◌, ◌-◌, ◌<◌, ◌≤◌, ◌^◌, ◌++◌, ℕ, Some, None, true, length, map, slice_get};
-ghost use Rattle.std.specs.Prelude.{IfOk, OnOk, option_map, ◌==◌, ◌∷◌, [], if◌then◌else◌, List};
+ghost use Rattle.std.specs.Prelude.{IfOk, OnOk, option_and_then, option_map, sum_by, ◌==◌, ◌∷◌, [], if◌then◌else◌, List};
 ghost use Rattle.std.specs.List.{flat_map};
-ghost use Rattle.dwarf_info.specs.declared.outline.SubroutineEntry.{SubroutineEntry};
-ghost use Rattle.dwarf_info.specs.Subroutines.{item_entries, subroutine_entry};
+ghost use Rattle.dwarf_info.specs.Subroutines.{SubroutineEntry, item_entries, subroutine_entry};
 ghost use Rattle.dwarf_inline.specs.Structure.{counted_ranges, unit_line_table, call_row, call_at};
 ghost use Rattle.elf_image.specs.Image.{ProgramImage};
-ghost use Rattle.dwarf_info.specs.declared.range_source.ListPlace.{ListPlace};
-ghost use Rattle.dwarf_info.specs.declared.range_source.RangeSource.TheVariants.{Listed};
-ghost use Rattle.dwarf_info.specs.Ranges.{place_ranges, ranges_of, source_ranges};
+ghost use Rattle.dwarf_info.specs.Queries.{unit_entry};
+ghost use Rattle.dwarf_info.specs.Ranges.{attribute_ranges, place_ranges};
 ghost use Rattle.dwarf_inline.specs.declared.details.CallLine.TheVariants.{Nowhere};
 ghost use Rattle.dwarf_inline.specs.private.Details.{ArePlaced, IsPlaced, call_line, detail_of, line_id};
 ghost use Rattle.dwarf_inline.specs.private.Found.{AreKnown, HasFound, IsFound, IsAdded};
 ghost use Rattle.dwarf_inline.specs.private.Found.{all_ranges, first_start, store_of};
 
 use crate::found_ranges::{
-    FoundRanges, KnownList, KnownLists, RangeStore, known_list, note_list, store_ranges,
+    FoundRanges, KnownList, KnownLists, RangeStore, known_list, note_list, store_counted,
 };
-use dwarf_info::{Entry, Info, RangeSource, SubroutineEntry};
+use crate::short_details::Details;
+use dwarf_info::{Entry, Info, ListPlace, RangeSource, SubroutineEntry};
 use dwarf_line::LineTable;
 use elf_image::Image;
 use prof_bytes::Memory;
@@ -62,55 +61,36 @@ pub(crate) struct RangeLists {
     /// The index of each item's detail.
     pub(crate) places: Vec<u32>,
     /// Items that follow one another and have no range share one.
-    pub(crate) details: Vec<Detail>,
+    pub(crate) details: Details,
     pub(crate) store: RangeStore,
     /// The number of the ranges of all.
     pub(crate) total: u64,
 }
 
-/// The ranges of an entry that count, and where all its ranges come from.
-fn read_ranges(
-    alloc: Global,
-    entry: &Entry<'_, '_>,
-    image: &Image<'_>,
-) -> Result<(Vec<(u32, u32)>, RangeSource), Memory>
-    ensures ranges { IfOk result (λ r. r.0.items ≡ counted_ranges entry.now.info image.now entry.now.index) }
-    ensures source { IfOk result (λ r. source_ranges entry.now.info.sections r.1
-        ≡ ranges_of entry.now.info entry.now.index) }
-    ensures list { IfOk result (λ r. (place : ListPlace) → r.1 ≡ Listed place
-        → place_ranges entry.now.info.sections place ≡ Some (ranges_of entry.now.info entry.now.index)) }
-    ensures few { IfOk result (λ r. length r.0.items < 2 ^ 31) }
-{
-    let (all, source) = entry.ranges_with_source(alloc)?;
-    let pairs = all.pairs();
-    let mut ranges = Vec::new(alloc);
-    for range in pairs {
-        if image.counts(range.0, range.1) {
-            ranges.push(*range)?;
-        }
-    }
-    Ok((ranges, source))
-}
-
-/// Reads the ranges of an entry that count, keeps them, and notes their list.
+/// Reads the ranges of an entry that count, keeps them, and notes their list, which is at `place`.
 fn keep_ranges(
     store: &mut RangeStore,
     alloc: Global,
     entry: &Entry<'_, '_>,
+    place: Option<ListPlace>,
     image: &Image<'_>,
     most: usize,
 ) -> Result<FoundRanges, Memory>
+    requires place { option_and_then (place_ranges entry.now.info.sections) place
+        ≡ option_and_then (attribute_ranges entry.now.info) (unit_entry entry.now.info entry.now.index) }
     requires few { length store.old.sources.items < 2 ^ 31 }
     requires known { AreKnown (store_of entry.now.info.sections image.now.segments store.old)
         store.old.known.lists.items }
     ensures found { IfOk result (λ f. HasFound entry.now.info.sections image.now.segments store.old f
         (counted_ranges entry.now.info image.now entry.now.index) store.new) }
 {
-    let (own, source) = read_ranges(alloc, entry, image)?;
-    let found = store_ranges(
+    let (all, source) = entry.ranges_with_source(alloc, place)?;
+    let found = store_counted(
         &mut store.ranges,
         &mut store.sources,
-        own.as_slice(),
+        alloc,
+        image,
+        all.pairs(),
         source,
         most,
     )?;
@@ -134,12 +114,13 @@ fn find_ranges(
     ensures found { IfOk result (λ f. HasFound entry.now.info.sections image.now.segments store.old f
         (counted_ranges entry.now.info image.now entry.now.index) store.new) }
 {
-    if let Some(place) = entry.list_place() {
+    let place = entry.list_place();
+    if let Some(place) = place {
         if let Some(found) = known_list(&store.known, place) {
             return Ok(found);
         }
     }
-    keep_ranges(store, alloc, entry, image, most)
+    keep_ranges(store, alloc, entry, place, image, most)
 }
 
 /// The line table of an entry's unit, where it is of version 5.
@@ -219,20 +200,23 @@ fn is_shared(last: Detail, detail: Detail) -> bool
 }
 
 /// The index of a detail, which is appended unless the last one is the same.
-fn add_detail(details: &mut Vec<Detail>, detail: Detail) -> Result<u32, Memory>
-    requires { length details.old.items < 2 ^ 31 }
-    ensures there { IfOk result (λ place. slice_get details.new.items place ≡ Some detail) }
-    ensures keeps { IfOk result (λ _. (i : ℕ) → i < length details.old.items
-        → slice_get details.new.items i ≡ slice_get details.old.items i) }
-    ensures few { IfOk result (λ _. length details.new.items ≤ length details.old.items + 1) }
-    ensures pushed { IfOk result (λ place. details.new.items ≡ (if place == length details.old.items
-        then details.old.items ++ detail ∷ [] else details.old.items)) }
+fn add_detail(details: &mut Details, detail: Detail) -> Result<u32, Memory>
+    requires few { length details.old < 2 ^ 31 }
+    requires first { detail.first_range ≡ sum_by (λ d. d.range_count) details.old }
+    requires count { detail.first_range + detail.range_count < 2 ^ 64 }
+    requires small { detail.range_count < 2 ^ 31 }
+    ensures there { IfOk result (λ place. slice_get details.new place ≡ Some detail) }
+    ensures keeps { IfOk result (λ _. (i : ℕ) → i < length details.old
+        → slice_get details.new i ≡ slice_get details.old i) }
+    ensures few { IfOk result (λ _. length details.new ≤ length details.old + 1) }
+    ensures pushed { IfOk result (λ place. details.new ≡ (if place == length details.old
+        then details.old ++ detail ∷ [] else details.old)) }
     ensures shared { IfOk result (λ _. detail.call ≡ Nowhere
-        → slice_get details.old.items (length details.old.items - 1) ≡ Some detail
-        → details.new.items ≡ details.old.items) }
+        → slice_get details.old (length details.old - 1) ≡ Some detail
+        → details.new ≡ details.old) }
 {
     let count = details.len();
-    if count > 0 && is_shared(details[count - 1], detail) {
+    if count > 0 && is_shared(details.get(count - 1), detail) {
         return Ok((count - 1) as u32);
     }
     details.push(detail)?;
@@ -277,19 +261,19 @@ fn add_item(
 ) -> Result<usize, Memory>
     requires entry { option_map (λ e. e.offset) (slice_get sources.info.now.entries item.now.index)
         ≡ Some item.now.offset }
-    requires few { length lists.old.details.items < 2 ^ 31 }
+    requires few { length lists.old.details < 2 ^ 31 }
     requires places { length lists.old.places.items < 2 ^ 31 }
     requires total { lists.old.total < 2 ^ 63 }
     requires found { IsFound sources.info.now.sections sources.image.now.segments lists.old }
     ensures added { IfOk result (λ _. IsAdded sources.entry.info.now.sections sources.entry.image.now.segments lists.old
         (counted_ranges sources.entry.info.now sources.entry.image.now item.now.index) lists.new) }
-    ensures placed { IfOk result (λ _. (at : ℕ) × IsPlaced lists.old.places.items lists.old.details.items
+    ensures placed { IfOk result (λ _. (at : ℕ) × IsPlaced lists.old.places.items lists.old.details
         (detail_of sources.entry.info.now sources.entry.lines.now sources.entry.image.now at
-        lists.old.total item.now) lists.new.places.items lists.new.details.items) }
+        lists.old.total item.now) lists.new.places.items lists.new.details) }
 {
     let entry = sources.info.entry_of(item, near);
     let found = find_ranges(&mut lists.store, alloc, &entry, sources.image, most)?;
-    let detail = detail_with(sources.lines, &entry, item.inlined, lists.total, found);
+    let detail = detail_with(sources.lines, &entry, item.is_inlined(), lists.total, found);
     let place = add_detail(&mut lists.details, detail)?;
     lists.places.push(place)?;
     lists.total += u64::from(found.count);
@@ -306,9 +290,9 @@ pub(crate) fn read_lists(
     requires few { length sources.info.now.entries < 2 ^ 31 }
     requires items { items.now ≡ map subroutine_entry (item_entries sources.info.now) }
     ensures places { IfOk result (λ lists. ArePlaced sources.entry.info.now sources.entry.lines.now
-        sources.entry.image.now (length items.now) lists.places.items lists.details.items) }
+        sources.entry.image.now (length items.now) lists.places.items lists.details) }
     ensures ranges { IfOk result (λ lists. all_ranges (store_of sources.entry.info.now.sections
-        sources.entry.image.now.segments lists.store) lists.details.items
+        sources.entry.image.now.segments lists.store) lists.details
         ≡ flat_map (λ e. counted_ranges sources.entry.info.now sources.entry.image.now e.0)
         (item_entries sources.entry.info.now)) }
     ensures found { IfOk result (λ lists. IsFound sources.entry.info.now.sections
@@ -317,11 +301,11 @@ pub(crate) fn read_lists(
 {
     let mut lists = RangeLists {
         places: Vec::new(alloc),
-        details: Vec::new(alloc),
+        details: Details::new(alloc),
         store: RangeStore {
             ranges: Vec::new(alloc),
             sources: Vec::new(alloc),
-            known: KnownLists::new(alloc),
+            known: KnownLists::new(alloc)?,
         },
         total: 0,
     };

@@ -59,7 +59,7 @@ fn after_from(info: &Info<'_>, items: &[SubroutineEntry], afters: &[u32], k: usi
     ensures { result ≡ after_at info.now k }
 {
     let mut after = k + 1;
-    while after < items.len() && items[after].index < end {
+    while after < items.len() && items[after].index() < end {
         after = afters[after] as usize;
     }
     after as u32
@@ -83,7 +83,7 @@ pub(crate) fn afters_of(
     let mut k = items.len();
     while k > 0 {
         k -= 1;
-        let end = ends[items[k].index as usize];
+        let end = ends[items[k].index() as usize];
         let after = after_from(info, items, afters.as_slice(), k, end);
         afters[k] = after;
     }

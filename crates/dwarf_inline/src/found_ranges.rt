@@ -1,11 +1,14 @@
 //! Ranges that are found where they are kept, and the lists of which they were read.
-ghost use Rattle.std.specs.Prelude.{◌≡◌, ◌<◌, ◌≤◌, ◌+◌, ◌^◌, true, length, IfOk, IfSome, OnOk, List};
+ghost use Rattle.std.specs.Prelude.{◌≡◌, ◌<◌, ◌≤◌, ◌+◌, ◌^◌, ◌++◌, true, filter, length, IfOk, IfSome, OnOk, List};
+ghost use Rattle.elf_image.specs.Image.{counts};
 ghost use Rattle.elf_image.specs.declared.part.Segment.{Segment};
+ghost use Rattle.dwarf_info.specs.Ranges.{source_ranges};
 ghost use Rattle.dwarf_info.specs.Sections.{Sections};
 ghost use Rattle.dwarf_inline.specs.Sources.{counted_source};
 ghost use Rattle.dwarf_inline.specs.private.Found.{AreKnown, IsKnown, IsStored, Store, first_start, stored};
 
 use dwarf_info::{ListPlace, RangeSource};
+use elf_image::Image;
 use prof_bytes::Memory;
 use std::alloc::Global;
 use std::collections::BTreeMap;
@@ -15,6 +18,9 @@ pub(crate) const FIRST_SOURCE: u32 = 1 << 31;
 
 /// The most lists that are known at a time.
 const MOST_KNOWN: usize = 1 << 16;
+
+/// The number of slots of known lists.
+const SLOTS: usize = 1 << 15;
 
 /// Ranges that count, found where they are kept.
 #[derive(Clone, Copy)]
@@ -34,12 +40,14 @@ pub(crate) struct KnownList {
     pub(crate) found: FoundRanges,
 }
 
-/// Range lists that were read.
+/// Range lists that were read. A slot of a list is free where the list with its index is none of this slot.
 #[derive(Drop)]
 pub(crate) struct KnownLists {
     pub(crate) lists: Vec<KnownList>,
-    /// The index of the last list that was read at an offset.
-    indices: BTreeMap<u32, u32>,
+    /// The index of the last list that was read at an offset, by the offset's slot.
+    slots: Vec<u32>,
+    /// The same of offsets of which the slot has a list at another offset.
+    others: BTreeMap<u32, u32>,
 }
 
 /// The ranges of items that count, and what they were read from.
@@ -61,20 +69,60 @@ fn same_place(a: ListPlace, b: ListPlace) -> bool
 
 impl KnownLists {
     /// No list.
-    pub(crate) fn new(alloc: Global) -> KnownLists
-        ensures { length result.lists.items ≡ 0 }
+    pub(crate) fn new(alloc: Global) -> Result<KnownLists, Memory>
+        ensures { IfOk result (λ known. length known.lists.items ≡ 0) }
     {
-        KnownLists {
+        Ok(KnownLists {
             lists: Vec::new(alloc),
-            indices: BTreeMap::new(alloc),
-        }
+            // room: `SLOTS`, an index for each slot
+            slots: vec![in alloc; 0u32; SLOTS]?,
+            others: BTreeMap::new(alloc),
+        })
     }
+}
+
+/// The slot of an offset: the high bits of a product with 2^32 divided by the golden ratio.
+fn slot_of(offset: u32) -> usize {
+    (offset.wrapping_mul(0x9e37_79b1) >> 17) as usize
+}
+
+/// The index of the list that a slot has, if it isn't free.
+fn index_in(known: &KnownLists, slot: usize) -> Option<usize> {
+    let index = *known.slots.get(slot)? as usize;
+    let list = known.lists.get(index)?;
+    if slot_of(list.place.offset) == slot {
+        return Some(index);
+    }
+    None
 }
 
 /// The index of the last list that was read at an offset. It is only tried.
 fn index_of(known: &KnownLists, offset: u32) -> Option<usize> {
-    let index = known.indices.get(&offset)?;
+    let index = index_in(known, slot_of(offset))?;
+    if known.lists.get(index)?.place.offset == offset {
+        return Some(index);
+    }
+    let index = known.others.get(&offset)?;
     Some(*index as usize)
+}
+
+/// Whether the slot of an offset has a list at another one.
+fn is_taken(known: &KnownLists, offset: u32) -> bool {
+    match index_in(known, slot_of(offset)) {
+        Some(index) => match known.lists.get(index) {
+            Some(list) => list.place.offset != offset,
+            None => false,
+        },
+        None => false,
+    }
+}
+
+/// Puts the index of a list into the slot of its offset.
+fn put_index(slots: &mut Vec<u32>, offset: u32, index: u32) {
+    let slot = slot_of(offset);
+    if slot < slots.len() {
+        slots[slot] = index;
+    }
 }
 
 /// The list at a place, if it is the last one that was read at its offset.
@@ -97,11 +145,17 @@ pub(crate) fn note_list(known: &mut KnownLists, list: KnownList) -> Result<(), M
 {
     if known.lists.len() >= MOST_KNOWN {
         known.lists.clear();
-        known.indices.clear();
+        known.others.clear();
     }
+    let offset = list.place.offset;
+    let is_taken = is_taken(known, offset);
     let index = known.lists.len() as u32;
     known.lists.push(list)?;
-    known.indices.insert(list.place.offset, index)?;
+    if is_taken {
+        known.others.insert(offset, index)?;
+    } else {
+        put_index(&mut known.slots, offset, index);
+    }
     Ok(())
 }
 
@@ -115,8 +169,25 @@ fn first_start(ranges: &[(u32, u32)]) -> Option<u32>
     }
 }
 
+/// Appends the ranges that count.
+fn push_counted(
+    ranges: &mut Vec<(u32, u32)>,
+    image: &Image<'_>,
+    all: &[(u32, u32)],
+) -> Result<(), Memory>
+    ensures { OnOk result (ranges.new.items
+        ≡ ranges.old.items ++ filter (λ r. counts image.now.segments r.0 r.1) all.now) }
+{
+    for range in all {
+        if image.counts(range.0, range.1) {
+            ranges.push(*range)?;
+        }
+    }
+    Ok(())
+}
+
 /// Keeps ranges that count, where there are at most `most` with them; else keeps where they come from.
-pub(crate) fn store_ranges(
+fn store_ranges(
     ranges: &mut Vec<(u32, u32)>,
     sources: &mut Vec<RangeSource>,
     own: &[(u32, u32)],
@@ -144,4 +215,38 @@ pub(crate) fn store_ranges(
     let at = FIRST_SOURCE + sources.len() as u32;
     sources.push(source)?;
     Ok(FoundRanges { at, count, first })
+}
+
+/// Keeps those of all these ranges that count, which are read from there, where they are few enough. None is copied where
+/// all would be.
+pub(crate) fn store_counted(
+    ranges: &mut Vec<(u32, u32)>,
+    sources: &mut Vec<RangeSource>,
+    alloc: Global,
+    image: &Image<'_>,
+    all: &[(u32, u32)],
+    source: RangeSource,
+    most: usize,
+) -> Result<FoundRanges, Memory>
+    requires few { length sources.old.items < 2 ^ 31 }
+    requires count { length all.now < 2 ^ 31 }
+    ensures stored { (sections : Sections) → source_ranges sections source ≡ all.now → IfOk result
+        (λ f. IsStored (stored sections image.now.segments ranges.old.items sources.old.items) f
+        (filter (λ r. counts image.now.segments r.0 r.1) all.now)
+        (stored sections image.now.segments ranges.new.items sources.new.items)) }
+    ensures few { OnOk result (length sources.new.items ≤ length sources.old.items + 1) }
+{
+    let at = ranges.len();
+    if at < FIRST_SOURCE as usize && all.len() <= most.saturating_sub(at) {
+        push_counted(ranges, image, all)?;
+        let own = &ranges[at..];
+        return Ok(FoundRanges {
+            at: at as u32,
+            count: own.len() as u32,
+            first: first_start(own),
+        });
+    }
+    let mut own = Vec::new(alloc);
+    push_counted(&mut own, image, all)?;
+    store_ranges(ranges, sources, own.as_slice(), source, most)
 }

@@ -50,16 +50,12 @@ fn checked_item<'i, 'a>(
     ensures identity { IfOk result (λ i. i ≡ entry_with start.entry.info (identity start.entry.info item.now.index)) }
     ensures opened { IfOk result (λ _. open_ends.new.items ≡ opened item.now end open_ends.old.items) }
 {
-    let SubroutineEntry {
-        index,
-        offset,
-        inlined,
-    } = *item;
+    let offset = item.offset();
     let Some(identity) = identity_of(long, start) else {
         return Err(Fail::Fault(StructureFault::LinkCycle { offset }));
     };
-    if inlined {
-        let levels = open_level(open_ends, index, end)?;
+    if item.is_inlined() {
+        let levels = open_level(open_ends, item.index(), end)?;
         if levels > MOST_LEVELS {
             return Err(Fail::Fault(StructureFault::TooDeep { offset }));
         }
@@ -89,9 +85,9 @@ fn checked_items<'a>(
     for item in items {
         let entry = info.entry_of(item, near);
         near = entry.unit();
-        let end = ends[item.index as usize];
+        let end = ends[item.index() as usize];
         let identity = checked_item(&mut long, entry, item, end, &mut open_ends)?;
-        add_identity(&mut identities, &mut long, &identity, item.offset)?;
+        add_identity(&mut identities, &mut long, &identity, item.offset())?;
     }
     Ok(identities)
 }

@@ -15,6 +15,8 @@ mod item_ranges;
 mod levels;
 mod links;
 mod long_entries;
+mod short_detail;
+mod short_details;
 mod structure;
 mod subroutine;
 

@@ -8,13 +8,14 @@ ghost use Rattle.dwarf_inline.specs.Sources.{ranges_in};
 ghost use Rattle.dwarf_inline.specs.private.Found.{ranges_there};
 ghost use Rattle.dwarf_inline.specs.Structure.{IsWholeStructure, proc_name, structure_of};
 
-use crate::details::{Detail, Sources, line_id, read_lists};
+use crate::details::{Sources, line_id, read_lists};
 use crate::ends::{afters_of, ends_of};
 use crate::fault::StructureFault;
 use crate::found_ranges::FIRST_SOURCE;
 use crate::identities::{ProcName, name_in, sort_names};
 use crate::item_ranges::{ItemRanges, RangesPlace, holds_there, ranges_there};
 use crate::levels::identities_of;
+use crate::short_details::Details;
 use crate::subroutine::Subroutine;
 use dwarf_info::{DebugParts, Info, RangeSource, SubroutineEntry};
 use dwarf_line::{LineTable, Segments};
@@ -23,7 +24,7 @@ use prof_bytes::{Fail, Memory};
 use std::alloc::Global;
 use std::marker::Model;
 
-/// The structure of a program (DWARF 5, section 3.3). It borrows the sections' bytes. An item takes 24 bytes, and what
+/// The structure of a program (DWARF 5, section 3.3). It borrows the sections' bytes. An item takes 20 bytes, and what
 /// its ranges and its name take.
 #[derive(Drop)]
 pub struct Structure<'a> {
@@ -34,7 +35,7 @@ pub struct Structure<'a> {
     identities: Vec<u32>,
     /// The index of the detail of each.
     places: Vec<u32>,
-    details: Vec<Detail>,
+    details: Details,
     /// The names of the identities, by their offsets.
     names: Vec<ProcName<'a>>,
     /// The ranges that are kept; items may share them.
@@ -61,7 +62,7 @@ impl<'a> Model for Structure<'a> {
       afters = structure.afters.items;
       identities = structure.identities.items;
       places = structure.places.items;
-      details = structure.details.items;
+      details = structure.details;
       names = structure.names.items;
       ranges = structure.ranges.items;
       sources = structure.sources.items;
@@ -74,7 +75,7 @@ impl<'a> Model for Structure<'a> {
       afters = structure.afters.items;
       identities = structure.identities.items;
       places = structure.places.items;
-      details = structure.details.items;
+      details = structure.details;
       names = structure.names.items;
       ranges = structure.ranges.items;
       sources = structure.sources.items;
@@ -98,11 +99,11 @@ impl<'a> Structure<'a> {
         ensures { slice_get self.now.items number ≡ Some result }
     {
         let at = number as usize;
-        let entry = self.entries[at];
-        let detail = self.details[self.places[at] as usize];
+        let entry = &self.entries[at];
+        let detail = self.details.get(self.places[at] as usize);
         Subroutine {
-            offset: entry.offset,
-            inlined: entry.inlined,
+            offset: entry.offset(),
+            inlined: entry.is_inlined(),
             next_after_subtree: self.afters[at],
             identity: self.identities[at],
             call: line_id(detail.call),
@@ -118,7 +119,7 @@ impl<'a> Structure<'a> {
             → ranges_there result ≡ take item.range_count (drop item.first_range self.now.ranges) }
     {
         let place = self.places[number as usize] as usize;
-        let detail = self.details[place];
+        let detail = self.details.get(place);
         if detail.at < FIRST_SOURCE {
             let first = detail.at as usize;
             let end = first + detail.range_count as usize;

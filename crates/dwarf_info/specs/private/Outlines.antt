@@ -6,9 +6,8 @@ use Rattle.dwarf_forms.specs.declared.declaration.Abbrev.{Abbrev}
 use Rattle.dwarf_info.specs.declared.entry.InfoEntry.{InfoEntry}
 use Rattle.dwarf_info.specs.declared.fault.InfoFault.{InfoFault}
 use Rattle.dwarf_info.specs.declared.outline.Outline.{Outline}
-use Rattle.dwarf_info.specs.declared.outline.SubroutineEntry.{SubroutineEntry}
 use Rattle.dwarf_info.specs.Entries.{entries_from}
-use Rattle.dwarf_info.specs.Subroutines.{is_item, subroutine_entry}
+use Rattle.dwarf_info.specs.Subroutines.{SubroutineEntry, is_item, subroutine_entry}
 
 -- what is kept of the items among entries of which the first has this index
 abbrev pub items_from : ℕ → List InfoEntry → List SubroutineEntry

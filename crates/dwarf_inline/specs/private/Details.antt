@@ -4,8 +4,7 @@ use Rattle.std.specs.Prelude.{slice_index_or, Option, Some, None, if◌then◌el
 use Rattle.scope_types.specs.declared.scope.LineId.{LineId}
 use Rattle.scope_types.specs.declared.scope.LineId.TheVariants.{Row, Address}
 use Rattle.elf_image.specs.Image.{ProgramImage}
-use Rattle.dwarf_info.specs.declared.outline.SubroutineEntry.{SubroutineEntry}
-use Rattle.dwarf_info.specs.Subroutines.{Indexed, item_entries, subroutine_entry}
+use Rattle.dwarf_info.specs.Subroutines.{Indexed, SubroutineEntry, item_entries, subroutine_entry}
 use Rattle.dwarf_info.specs.Units.{DebugInfo}
 use Rattle.dwarf_line.specs.Lines.{Lines}
 use Rattle.dwarf_inline.specs.declared.details.CallLine.{CallLine}

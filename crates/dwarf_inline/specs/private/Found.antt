@@ -86,6 +86,7 @@ pub record IsOwn (s : Store) (f : FoundRanges) (rs : List (ℕ × ℕ)) : Type 0
   pub there : IsThere s f.at f.count
   pub ranges : ranges_at s f.at f.count ≡ rs
   pub first : f.first ≡ first_start rs
+  pub few : f.count < 2 ^ 31
 
 -- the ranges of a list that count were found
 pub record IsKnown (s : Store) (l : KnownList) : Type 0 where
@@ -145,8 +146,8 @@ pub record HasFound (sections : Sections) (segments : List Segment) (r : RangeSt
 
 -- the ranges of lists are found, and counted, and so are those of the lists that are known
 pub record IsFound (sections : Sections) (segments : List Segment) (l : RangeLists) : Type 0 where
-  pub found : AreFound (store_of sections segments l.store) l.details.items
-  pub total : l.total ≡ length (all_ranges (store_of sections segments l.store) l.details.items)
+  pub found : AreFound (store_of sections segments l.store) l.details
+  pub total : l.total ≡ length (all_ranges (store_of sections segments l.store) l.details)
   pub known : AreKnown (store_of sections segments l.store) l.store.known.lists.items
   pub few : length l.store.sources.items ≤ length l.places.items
 
@@ -154,6 +155,6 @@ pub record IsFound (sections : Sections) (segments : List Segment) (l : RangeLis
 pub record IsAdded (sections : Sections) (segments : List Segment) (l : RangeLists) (own : List (ℕ × ℕ))
     (l' : RangeLists) : Type 0 where
   pub found : IsFound sections segments l'
-  pub ranges : all_ranges (store_of sections segments l'.store) l'.details.items
-      ≡ all_ranges (store_of sections segments l.store) l.details.items ++ own
+  pub ranges : all_ranges (store_of sections segments l'.store) l'.details
+      ≡ all_ranges (store_of sections segments l.store) l.details ++ own
   pub total : l'.total < l.total + 2 ^ 32

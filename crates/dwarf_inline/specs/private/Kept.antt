@@ -2,7 +2,7 @@
 use Rattle.std.specs.Prelude.{◌≡◌, ℕ, ◌<◌, false, List, length, map, slice_index, slice_index_or}
 use Rattle.std.specs.List.{Contains, range_with_len}
 use Rattle.std.specs.List.Sorted.{IsNonDecreasingBy}
-use Rattle.dwarf_info.specs.declared.outline.SubroutineEntry.{SubroutineEntry}
+use Rattle.dwarf_info.specs.Subroutines.{SubroutineEntry}
 use Rattle.dwarf_inline.specs.declared.subroutine.Subroutine.{Subroutine}
 use Rattle.dwarf_inline.specs.declared.details.Detail.{Detail}
 use Rattle.dwarf_inline.specs.declared.identities.ProcName.{ProcName}

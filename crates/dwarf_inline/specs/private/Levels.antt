@@ -1,13 +1,12 @@
 -- The inlined subroutines that are open while entries are gone through: the indices where they end.
 use Rattle.std.specs.Prelude.{◌≡◌, ℕ, ◌≤◌, ◌&&◌, nat_lt, Bool, List, [], ◌∷◌, ◌++◌, filter, count_by, All}
 use Rattle.std.specs.Prelude.{if◌then◌else◌, Result, Ok, Err}
-use Rattle.dwarf_info.specs.declared.outline.SubroutineEntry.{SubroutineEntry}
+use Rattle.dwarf_info.specs.Subroutines.{Indexed, SubroutineEntry, is_inlined}
 use Rattle.dwarf_inline.specs.declared.fault.StructureFault.{StructureFault}
 use Rattle.dwarf_inline.specs.declared.fault.StructureFault.TheVariants.{TooDeep, LinkCycle}
 use Rattle.dwarf_inline.specs.Links.{has_more_links}
 use Rattle.dwarf_inline.specs.Structure.{most_levels}
 use Rattle.dwarf_info.specs.Units.{DebugInfo}
-use Rattle.dwarf_info.specs.Subroutines.{Indexed, is_inlined}
 use Rattle.dwarf_inline.specs.Nesting.{end_of}
 
 -- how many end after an index

@@ -10,5 +10,5 @@ returns-in-Some-known_list c =
     record {
       found = known_found info image c.args.entry.now.index c.args.store.now c.in-Some.place c.in-Some-known_list.found c.requires.known
           (c.in-Some-known_list.ensures (store_of info.sections image.segments c.args.store.now) c.requires.known)
-          (λ ranges read. c.in-Some.ensures c.in-Some.place ranges refl read);
+          (λ ranges read. c.in-Some.ensures.ranges c.in-Some.place ranges refl read);
     }

@@ -5,7 +5,7 @@ use Rattle.dwarf_info.specs.Subroutines.{Indexed, item_entries}
 use Rattle.dwarf_inline.specs.Structure.{counted_ranges}
 use Rattle.dwarf_inline.proofs.CheckedItems.{some_more}
 use Rattle.dwarf_inline.proofs.Items.{ranges_so_far}
-use Rattle.dwarf_inline.proofs.KeptEntries.{nothing, kept_long, kept_at, kept_index, kept_offset}
+use Rattle.dwarf_inline.proofs.KeptEntries.{nothing, kept_long, item_kept, item_index, item_offset}
 use Rattle.dwarf_inline.specs.private.Found.{all_ranges, store_of, stored}
 use Rattle.dwarf_inline.proofs.DetailPlaces.{none_placed, one_placed}
 use Rattle.dwarf_inline.proofs.FoundRanges.{none_found}
@@ -14,9 +14,9 @@ use Rattle.dwarf_inline.proofs.details.read_lists.Goals as goal
 
 pub loop-item-init : goal.loop-item-init
 loop-item-init c =
-    let none : c.new-2.result.items ≡ [] = c.new-2.ensures.items in
+    let none : c.new-2.result ≡ [] = c.new-2.ensures in
     record {
-      placed = rw (c.new.ensures.items, c.new-2.ensures.items) (none_placed c.args.sources.info.now c.args.sources.lines.now c.args.sources.image.now);
+      placed = rw (c.new.ensures.items, c.new-2.ensures) (none_placed c.args.sources.info.now c.args.sources.lines.now c.args.sources.image.now);
       found = record {
         found = rw none (none_found (stored c.args.sources.info.now.sections c.args.sources.image.now.segments c.new-3.result.items c.new-4.result.items));
         total = rw none refl;
@@ -28,7 +28,7 @@ loop-item-init c =
     }
 
 pub add_item-requires-clause-entry : goal.add_item-requires-clause-entry
-add_item-requires-clause-entry c = kept_offset c.args.sources.info.now c.args.items.now c.loop-item.item-index _ c.requires.items c.loop-item-test.true
+add_item-requires-clause-entry c = item_offset c.args.sources.info.now c.args.items.now c.loop-item.item-index c.item-item.result c.requires.items c.loop-item-test.true c.item-item.is
 
 pub add_item-requires-clause-few : goal.add_item-requires-clause-few
 add_item-requires-clause-few c =
@@ -53,16 +53,16 @@ loop-item-preserved c =
     let info = c.args.sources.info.now in
     let image = c.args.sources.image.now in
     let within : c.loop-item.item-index < length (item_entries info) = omega (arith, c.loop-item-test.true, kept_long info c.args.items.now c.requires.items) in
-    let before : List (ℕ × ℕ) = all_ranges (store_of info.sections image.segments c.loop-item.lists.store) c.loop-item.lists.details.items in
+    let before : List (ℕ × ℕ) = all_ranges (store_of info.sections image.segments c.loop-item.lists.store) c.loop-item.lists.details in
     record {
       placed = one_placed info c.args.sources.lines.now image c.loop-item.item-index c.in_ok-near.ensures.placed.0 _ _ _ _ _ _ within c.loop-item.invariant.placed
           (c.loop-item.invariant.found.total ∙ ranges_so_far info image (item_entries info) c.loop-item.item-index nothing before refl within c.loop-item.invariant.ranges)
-          (kept_at info c.args.items.now c.loop-item.item-index _ c.requires.items c.loop-item-test.true)
+          (item_kept info c.args.items.now c.loop-item.item-index c.item-item.result c.requires.items c.loop-item-test.true c.item-item.is)
           c.in_ok-near.ensures.placed.1;
       found = c.in_ok-near.ensures.added.found;
       few = (let more = c.in_ok-near.ensures.added.total in let old = c.loop-item.invariant.few in omega arith);
       ranges = some_more (λ (e : Indexed). counted_ranges info image e.0) (item_entries info) c.loop-item.item-index nothing _ before _ within
-          (ap (counted_ranges info image) (kept_index info c.args.items.now c.loop-item.item-index _ c.requires.items c.loop-item-test.true))
+          (ap (counted_ranges info image) (item_index info c.args.items.now c.loop-item.item-index c.item-item.result c.requires.items c.loop-item-test.true c.item-item.is))
           c.loop-item.invariant.ranges c.in_ok-near.ensures.added.ranges;
     }
 

@@ -21,17 +21,17 @@ loop-k-preserved c =
       afters = one_more_after c.args.info.now c.loop-k.afters.items c.loop-k.k _ c.after_from-after.result (omega arith) (omega arith) c.loop-k.invariant.afters c.after_from-after.ensures;
     }
 
-pub bounds-ends-items : goal.bounds-ends-items
-bounds-ends-items c =
+pub bounds-ends-index : goal.bounds-ends-index
+bounds-ends-index c =
     let within = c.loop-k.invariant.within in
     let some = c.loop-k-test.true in
-    end_within_ends c.args.info.now c.args.items.now c.args.ends.now (c.loop-k.k - 1) _ c.requires.items c.requires.ends (omega arith)
+    end_within_ends c.args.info.now c.args.items.now c.args.ends.now (c.loop-k.k - 1) c.index.result c.index-items-k.result c.requires.items c.requires.ends (omega arith) c.index-items-k.is c.index.ensures
 
 pub after_from-after-requires-clause-end : goal.after_from-after-requires-clause-end
 after_from-after-requires-clause-end c =
     let within = c.loop-k.invariant.within in
     let some = c.loop-k-test.true in
-    end_is c.args.info.now c.args.items.now c.args.ends.now (c.loop-k.k - 1) _ c.requires.items c.requires.ends (omega arith)
+    end_is c.args.info.now c.args.items.now c.args.ends.now (c.loop-k.k - 1) c.index.result c.index-items-k.result c.requires.items c.requires.ends (omega arith) c.index-items-k.is c.index.ensures
 
 pub returns : goal.returns
 returns c =

@@ -9,7 +9,7 @@ use Rattle.dwarf_inline.specs.declared.fault.StructureFault.{StructureFault}
 use Rattle.dwarf_inline.specs.Links.{identity, identity_offset, entry_offset}
 use Rattle.dwarf_inline.specs.Structure.{checked_items}
 use Rattle.dwarf_inline.specs.private.Names.{named, named_item}
-use Rattle.dwarf_inline.proofs.KeptEntries.{nothing, kept_long, kept_index, kept_offset, end_within_ends, end_is}
+use Rattle.dwarf_inline.proofs.KeptEntries.{nothing, kept_long, item_index, item_offset, end_within_ends, end_is}
 use Rattle.dwarf_inline.proofs.OpenLevels.{told_of, opens_kept}
 use Rattle.dwarf_inline.proofs.CheckedItems.{passes_on, all_pass, fails_at, identity_by, one_more, some_more}
 use Rattle.dwarf_inline.proofs.KeptAnswers.{answers_of}
@@ -24,11 +24,11 @@ loop-item-init c = record {
   open_ends = search rules;
 }
 
-pub bounds-ends-item : goal.bounds-ends-item
-bounds-ends-item c = end_within_ends c.args.info.now c.args.items.now c.args.ends.now c.loop-item.item-index _ c.requires.items c.requires.ends c.loop-item-test.true
+pub bounds-ends-index : goal.bounds-ends-index
+bounds-ends-index c = end_within_ends c.args.info.now c.args.items.now c.args.ends.now c.loop-item.item-index c.index.result c.item-item.result c.requires.items c.requires.ends c.loop-item-test.true c.item-item.is c.index.ensures
 
 pub entry_of-entry-requires : goal.entry_of-entry-requires
-entry_of-entry-requires c = kept_offset c.args.info.now c.args.items.now c.loop-item.item-index _ c.requires.items c.loop-item-test.true
+entry_of-entry-requires c = item_offset c.args.info.now c.args.items.now c.loop-item.item-index c.item-item.result c.requires.items c.loop-item-test.true c.item-item.is
 
 pub checked_item-requires-clause-item : goal.checked_item-requires-clause-item
 checked_item-requires-clause-item c = ap (λ (e : EntryAt). e.index) c.entry_of-entry.ensures
@@ -50,7 +50,7 @@ returns-in_err-identity-clause-gives c =
     let failed : FailsBy c.in_err-identity.field-0.0 (checked_items info (item_entries info)) =
     fails_at info (item_entries info) c.loop-item.item-index nothing c.in_err-identity.field-0.0 _ within
     (subst (λ (r : Result (Unit {0}) StructureFault). FailsBy c.in_err-identity.field-0.0 r)
-    (told_of info c.entry_of-entry.result.info c.args.items.now c.loop-item.item-index _ c.loop-item.open_ends.items own c.requires.items c.loop-item-test.true c.loop-item.invariant.open_ends)
+    (told_of info c.entry_of-entry.result.info c.args.items.now c.loop-item.item-index c.item-item.result c.loop-item.open_ends.items own c.requires.items c.loop-item-test.true c.item-item.is c.loop-item.invariant.open_ends)
     c.in_err-identity.ensures.gives) c.loop-item.invariant.checked in
     search rules
 
@@ -60,18 +60,18 @@ loop-item-preserved c =
     let within : c.loop-item.item-index < length (item_entries info) = omega (arith, c.loop-item-test.true, kept_long info c.args.items.now c.requires.items) in
     let own : c.entry_of-entry.result.info ≡ info = ap (λ (e : EntryAt). e.info) c.entry_of-entry.ensures in
     let same : c.in_ok-identity.identity ≡ entry_with info (identity info (get_or (item_entries info) c.loop-item.item-index nothing).0) =
-    identity_by info _ _ _ _ own (kept_index info c.args.items.now c.loop-item.item-index _ c.requires.items c.loop-item-test.true) c.in_ok-identity.ensures.identity in
+    identity_by info _ _ _ _ own (item_index info c.args.items.now c.loop-item.item-index c.item-item.result c.requires.items c.loop-item-test.true c.item-item.is) c.in_ok-identity.ensures.identity in
     record {
       checked = passes_on info (item_entries info) c.loop-item.item-index nothing _ within
-          (sym (told_of info c.entry_of-entry.result.info c.args.items.now c.loop-item.item-index _ c.loop-item.open_ends.items own c.requires.items c.loop-item-test.true c.loop-item.invariant.open_ends)
+          (sym (told_of info c.entry_of-entry.result.info c.args.items.now c.loop-item.item-index c.item-item.result c.loop-item.open_ends.items own c.requires.items c.loop-item-test.true c.item-item.is c.loop-item.invariant.open_ends)
           ∙ c.in_ok-identity.ensures.gives) c.loop-item.invariant.checked;
       offsets = one_more (λ (e : Indexed). identity_offset info e.0) (item_entries info) c.loop-item.item-index nothing _ c.loop-item.identities.offsets.items _ within
           (ap (λ (e : EntryAt). entry_offset e.info e.index) same) c.loop-item.invariant.offsets c.in_ok-add_identity.ensures.offsets;
       names = some_more (named_item info) (item_entries info) c.loop-item.item-index nothing _ _ _ within
           (ap (λ (e : EntryAt). option_to_list (named e.info e.index (entry_offset e.info e.index))) same) c.loop-item.invariant.names c.in_ok-add_identity.ensures.names;
       answers = answers_of c.in_ok-identity.identity.info info c.add_identity.new.long.answers (sym (ap (λ (e : EntryAt). e.info) same)) c.in_ok-add_identity.ensures.answers;
-      open_ends = opens_kept info c.args.items.now c.loop-item.item-index _ _ c.loop-item.open_ends.items _ c.requires.items c.loop-item-test.true
-          (end_is info c.args.items.now c.args.ends.now c.loop-item.item-index _ c.requires.items c.requires.ends c.loop-item-test.true)
+      open_ends = opens_kept info c.args.items.now c.loop-item.item-index c.item-item.result _ c.loop-item.open_ends.items _ c.requires.items c.loop-item-test.true c.item-item.is
+          (end_is info c.args.items.now c.args.ends.now c.loop-item.item-index c.index.result c.item-item.result c.requires.items c.requires.ends c.loop-item-test.true c.item-item.is c.index.ensures)
           c.loop-item.invariant.open_ends c.in_ok-identity.ensures.opened;
     }
 

@@ -13,7 +13,7 @@ invariant_of-result c =
     let info = c.args.info.now in
     let lines = c.args.lines.now in
     let image = c.args.image.now in
-    let l : Lists = record { entries = c.in_ok-outline.outline.subroutines.items; afters = c.in_ok-afters.afters.items; identities = c.in_ok-identities.identities.offsets.items; places = c.in_ok-lists.lists.places.items; details = c.in_ok-lists.lists.details.items; names = c.sort_names.new.names.items; ranges = c.in_ok-lists.lists.store.ranges.items; sources = c.in_ok-lists.lists.store.sources.items; sections = sections_of c.sections-sections.result; segments = c.in_ok-segments.segments } in
+    let l : Lists = record { entries = c.in_ok-outline.outline.subroutines.items; afters = c.in_ok-afters.afters.items; identities = c.in_ok-identities.identities.offsets.items; places = c.in_ok-lists.lists.places.items; details = c.in_ok-lists.lists.details; names = c.sort_names.new.names.items; ranges = c.in_ok-lists.lists.store.ranges.items; sources = c.in_ok-lists.lists.store.sources.items; sections = sections_of c.sections-sections.result; segments = c.in_ok-segments.segments } in
     let total = c.in_ok-lists.ensures.found.total in
     let few = c.in_ok-lists.ensures.short in
     let short : length (all_ranges (store_of info.sections image.segments c.in_ok-lists.lists.store) l.details) < 2 ^ 63 = omega arith in
@@ -21,7 +21,7 @@ invariant_of-result c =
       entries = c.in_ok-outline.ensures.subroutines;
       afters = c.in_ok-afters.ensures;
       identities = c.in_ok-identities.ensures.offsets;
-      placed = subst (λ (n : ℕ). ArePlaced info lines image n c.in_ok-lists.lists.places.items c.in_ok-lists.lists.details.items) (ap length c.as_slice-4.ensures.value) c.in_ok-lists.ensures.places;
+      placed = subst (λ (n : ℕ). ArePlaced info lines image n c.in_ok-lists.lists.places.items c.in_ok-lists.lists.details) (ap length c.as_slice-4.ensures.value) c.in_ok-lists.ensures.places;
       named = c.in_ok-identities.ensures.names;
       moved = c.sort_names.ensures.same;
       sorted = c.sort_names.ensures.sorted;
@@ -38,7 +38,7 @@ returns c =
     let info = c.args.info.now in
     let lines = c.args.lines.now in
     let image = c.args.image.now in
-    let l : Lists = record { entries = c.in_ok-outline.outline.subroutines.items; afters = c.in_ok-afters.afters.items; identities = c.in_ok-identities.identities.offsets.items; places = c.in_ok-lists.lists.places.items; details = c.in_ok-lists.lists.details.items; names = c.sort_names.new.names.items; ranges = c.in_ok-lists.lists.store.ranges.items; sources = c.in_ok-lists.lists.store.sources.items; sections = sections_of c.sections-sections.result; segments = c.in_ok-segments.segments } in
+    let l : Lists = record { entries = c.in_ok-outline.outline.subroutines.items; afters = c.in_ok-afters.afters.items; identities = c.in_ok-identities.identities.offsets.items; places = c.in_ok-lists.lists.places.items; details = c.in_ok-lists.lists.details; names = c.sort_names.new.names.items; ranges = c.in_ok-lists.lists.store.ranges.items; sources = c.in_ok-lists.lists.store.sources.items; sections = sections_of c.sections-sections.result; segments = c.in_ok-segments.segments } in
     let total = c.in_ok-lists.ensures.found.total in
     let few = c.in_ok-lists.ensures.short in
     let short : length (all_ranges (store_of info.sections image.segments c.in_ok-lists.lists.store) l.details) < 2 ^ 63 = omega arith in
@@ -46,7 +46,7 @@ returns c =
       entries = c.in_ok-outline.ensures.subroutines;
       afters = c.in_ok-afters.ensures;
       identities = c.in_ok-identities.ensures.offsets;
-      placed = subst (λ (n : ℕ). ArePlaced info lines image n c.in_ok-lists.lists.places.items c.in_ok-lists.lists.details.items) (ap length c.as_slice-4.ensures.value) c.in_ok-lists.ensures.places;
+      placed = subst (λ (n : ℕ). ArePlaced info lines image n c.in_ok-lists.lists.places.items c.in_ok-lists.lists.details) (ap length c.as_slice-4.ensures.value) c.in_ok-lists.ensures.places;
       named = c.in_ok-identities.ensures.names;
       moved = c.sort_names.ensures.same;
       sorted = c.sort_names.ensures.sorted;
