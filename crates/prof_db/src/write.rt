@@ -1,5 +1,5 @@
 //! A database as bytes.
-ghost use Rattle.std.specs.Prelude.{◌≡◌, ◌<◌, ◌^◌, ◌++◌, length, IfOk, OnOk, ◌∷◌, []};
+ghost use Rattle.std.specs.Prelude.{◌≡◌, ◌<◌, ◌+◌, ◌-◌, ◌*◌, ◌^◌, ◌++◌, length, min, sum_by, IfOk, OnOk, ◌∷◌, []};
 ghost use Rattle.std.specs.List.{flat_map};
 ghost use Rattle.scope_types.specs.Words.{root_words, proc_words};
 ghost use Rattle.tree_types.specs.NamesAscend.{NamesAscend};
@@ -105,6 +105,29 @@ fn index_of_file(names: &Names, table: u32, number: u32) -> u32
     count(find_file(names, table, number).unwrap_or(files.len()))
 }
 
+/// Appends the bytes of two numbers at once.
+fn put_two(out: &mut Vec<u8>, first: u32, second: u32) -> Result<(), Memory>
+    ensures { OnOk result (out.new.items ≡ out.old.items ++ words (first ∷ second ∷ [])) }
+{
+    let mut bytes = [0; 8];
+    LittleEndian::write_u32(&mut bytes[..4], first);
+    LittleEndian::write_u32(&mut bytes[4..], second);
+    out.extend_from_slice(&bytes)?;
+    Ok(())
+}
+
+/// Appends the bytes of three numbers at once.
+fn put_three(out: &mut Vec<u8>, first: u32, second: u32, third: u32) -> Result<(), Memory>
+    ensures { OnOk result (out.new.items ≡ out.old.items ++ words (first ∷ second ∷ third ∷ [])) }
+{
+    let mut bytes = [0; 12];
+    LittleEndian::write_u32(&mut bytes[..4], first);
+    LittleEndian::write_u32(&mut bytes[4..8], second);
+    LittleEndian::write_u32(&mut bytes[8..], third);
+    out.extend_from_slice(&bytes)?;
+    Ok(())
+}
+
 fn put_line(out: &mut Vec<u8>, names: &Names, line: LineId) -> Result<(), Memory>
     requires { NamesAscend names.now }
     ensures { OnOk result (out.new.items ≡ out.old.items ++ words (line_numbers names.now line)) }
@@ -112,9 +135,9 @@ fn put_line(out: &mut Vec<u8>, names: &Names, line: LineId) -> Result<(), Memory
     match line {
         LineId::Row { table, file, line } => {
             let index = index_of_file(names, table, file);
-            put_words(out, &[0, index, line])
+            put_three(out, 0, index, line)
         }
-        LineId::Address(address) => put_words(out, &[1, address]),
+        LineId::Address(address) => put_two(out, 1, address),
     }
 }
 
@@ -127,50 +150,57 @@ fn root_word(kind: RootKind) -> u32
     }
 }
 
+/// Appends a node whose scope has a line, after these two numbers.
 #[tactic(auto, using(crate::proofs::Writing::words_parts))]
-fn put_inline(out: &mut Vec<u8>, names: &Names, callee: ProcId, call: LineId) -> Result<(), Memory>
+fn put_lined(
+    out: &mut Vec<u8>,
+    names: &Names,
+    parent: u32,
+    variant: u32,
+    line: LineId,
+) -> Result<(), Memory>
     requires { NamesAscend names.now }
     ensures { OnOk result (out.new.items
-        ≡ out.old.items ++ words (scope_numbers names.now (Scope.Inline callee call))) }
+        ≡ out.old.items ++ words (parent ∷ variant ∷ line_numbers names.now line)) }
 {
-    let index = index_of_proc(names, callee);
-    put_words(out, &[2, index])?;
-    put_line(out, names, call)?;
+    put_two(out, parent, variant)?;
+    put_line(out, names, line)?;
     Ok(())
 }
 
+/// Appends a node whose scope is an inlined procedure, after its parent's number.
 #[tactic(auto, using(crate::proofs::Writing::words_parts))]
-fn put_scope(out: &mut Vec<u8>, names: &Names, scope: Scope) -> Result<(), Memory>
+fn put_inline(
+    out: &mut Vec<u8>,
+    names: &Names,
+    parent: u32,
+    callee: ProcId,
+    call: LineId,
+) -> Result<(), Memory>
     requires { NamesAscend names.now }
-    ensures { OnOk result (out.new.items ≡ out.old.items ++ words (scope_numbers names.now scope)) }
+    ensures { OnOk result (out.new.items
+        ≡ out.old.items ++ words (parent ∷ scope_numbers names.now (Scope.Inline callee call))) }
 {
-    match scope {
-        Scope::Root(kind) => put_words(out, &[0, root_word(kind)]),
-        Scope::Proc(id) => {
-            let index = index_of_proc(names, id);
-            put_words(out, &[1, index])
-        }
-        Scope::Inline { callee, call } => put_inline(out, names, callee, call),
-        Scope::Call(line) => {
-            put_u32(out, 3)?;
-            put_line(out, names, line)?;
-            Ok(())
-        }
-        Scope::Stmt(line) => {
-            put_u32(out, 4)?;
-            put_line(out, names, line)?;
-            Ok(())
-        }
-    }
+    let index = index_of_proc(names, callee);
+    put_three(out, parent, 2, index)?;
+    put_line(out, names, call)?;
+    Ok(())
 }
 
 fn put_node(out: &mut Vec<u8>, names: &Names, n: &Node) -> Result<(), Memory>
     requires { NamesAscend names.now }
     ensures { OnOk result (out.new.items ≡ out.old.items ++ node_bytes names.now n.now) }
 {
-    put_u32(out, n.parent)?;
-    put_scope(out, names, n.scope)?;
-    Ok(())
+    match n.scope {
+        Scope::Root(kind) => put_three(out, n.parent, 0, root_word(kind)),
+        Scope::Proc(id) => {
+            let index = index_of_proc(names, id);
+            put_three(out, n.parent, 1, index)
+        }
+        Scope::Inline { callee, call } => put_inline(out, names, n.parent, callee, call),
+        Scope::Call(line) => put_lined(out, names, n.parent, 3, line),
+        Scope::Stmt(line) => put_lined(out, names, n.parent, 4, line),
+    }
 }
 
 fn put_nodes(out: &mut Vec<u8>, names: &Names, nodes: &[Node]) -> Result<(), Memory>
@@ -281,6 +311,32 @@ fn put_counts(out: &mut Vec<u8>, names: &Names, nodes: &[Node]) -> Result<(), Me
     put_words(out, &[procs, files, count(nodes.len())])
 }
 
+/// How many entries a plane has; or 2^64 - 1, where it has more.
+fn plane_entries(columns: u32, plane: &ProfilePlane) -> usize
+    requires { length plane.now ≡ columns }
+    ensures { result ≡ min (sum_by (λ entries. length entries) plane.now) (2 ^ 64 - 1) }
+{
+    let mut count = 0usize;
+    for column in 0..columns {
+        count = count.saturating_add(plane.column(column).len());
+    }
+    count
+}
+
+/// Enough bytes for nodes and both planes: a node has at most six words, each list its count, and both planes have as many
+/// entries of sixteen bytes.
+fn enough_bytes(nodes: &[Node], columns: u32, plane: &ProfilePlane) -> usize
+    requires { length plane.now ≡ columns }
+    ensures { result ≡ min (32 * sum_by (λ entries. length entries) plane.now + 28 * length nodes.now + 4 * columns)
+        (2 ^ 64 - 1) }
+{
+    let planes = plane_entries(columns, plane).saturating_mul(32);
+    let lists = nodes.len().saturating_mul(28);
+    planes
+        .saturating_add(lists)
+        .saturating_add(4 * columns as usize)
+}
+
 /// What all versions share.
 fn put_shared(
     out: &mut Vec<u8>,
@@ -299,6 +355,8 @@ fn put_shared(
     put_counts(out, names, nodes)?;
     put_procs(out, names.procs.items())?;
     put_files(out, names.files.items())?;
+    // room: `enough_bytes(nodes, columns, profiles)`, for what follows, so that the bytes are not moved as they grow
+    out.reserve(enough_bytes(nodes, columns, profiles))?;
     put_nodes(out, names, nodes)?;
     put_profiles(out, columns, profiles)?;
     put_contexts(out, contexts)?;
