@@ -7,7 +7,7 @@ ghost use Rattle.tree_types.specs.Tree.{count_order, counts_in};
 ghost use Rattle.path_trie.specs.Trie.{IsIndex};
 ghost use Rattle.tree_join.specs.private.Sums.{counts_of, all_counts, AreSums, HasIndices};
 
-use crate::walker::Walker;
+use crate::walker::PeekingWalker;
 use path_trie::PathEnd;
 use prof_bytes::Memory;
 use std::alloc::Global;
@@ -31,13 +31,13 @@ fn put_counts(counts: &mut Vec<NodeCount>, ends: &[PathEnd], numbers: &[u32]) ->
 }
 
 /// The counts of the ends of all tries that were walked over, trie by trie.
-fn numbered_counts(alloc: Global, walkers: &[Walker]) -> Result<Vec<NodeCount>, Memory>
+fn numbered_counts(alloc: Global, walkers: &[PeekingWalker]) -> Result<Vec<NodeCount>, Memory>
     requires { All HasIndices walkers.now }
     ensures { IfOk result (λ counts. counts.items ≡ all_counts walkers.now) }
 {
     let mut counts = Vec::new(alloc);
     for walker in walkers {
-        put_counts(&mut counts, walker.ends, walker.numbers.as_slice())?;
+        put_counts(&mut counts, walker.ends(), walker.numbers())?;
     }
     Ok(counts)
 }
@@ -93,7 +93,7 @@ pub fn added_up(alloc: Global, counts: Vec<NodeCount>) -> Result<Vec<NodeCount>,
 }
 
 /// The counts of the ends of all tries that were walked over, those of each node and column added up, in order.
-pub fn summed(alloc: Global, walkers: &[Walker]) -> Result<Vec<NodeCount>, Memory>
+pub fn summed(alloc: Global, walkers: &[PeekingWalker]) -> Result<Vec<NodeCount>, Memory>
     requires indices { All HasIndices walkers.now }
     requires few { counts_in (all_counts walkers.now) ≤ most_samples }
     ensures { IfOk result (λ sums. AreSums (all_counts walkers.now) sums.items) }

@@ -15,7 +15,7 @@ ghost use Rattle.tree_join.specs.private.Result.{IsTreeOf};
 
 use crate::counts::summed;
 use crate::walk::walk;
-use crate::walker::Walker;
+use crate::walker::{PeekingWalker, Walker};
 use path_trie::Trie;
 use prof_bytes::Memory;
 use std::alloc::Global;
@@ -35,12 +35,12 @@ pub fn join_trie(alloc: Global, trie: &Trie, columns: u32) -> Result<Tree, Memor
         × (tree.nodes ≡ node_list (each_path trie.now))) }
 {
     let mut walkers = Vec::new(alloc);
-    walkers.push(Walker::of(alloc, trie)?)?;
+    walkers.push(PeekingWalker::of(Walker::of(alloc, trie)?))?;
     tree_of(alloc, walkers.as_mut_slice(), columns)
 }
 
 /// The tree of what is walked over, for a given number of columns.
-fn tree_of(alloc: Global, walkers: &mut [Walker], columns: u32) -> Result<Tree, Memory>
+fn tree_of(alloc: Global, walkers: &mut [PeekingWalker], columns: u32) -> Result<Tree, Memory>
     requires each { All (IsWalker []) walkers.old }
     requires samples { sum_by samples_of (map walked_entries walkers.old) ≤ most_samples }
     requires nodes { sum_by (λ es. length (trie_nodes es)) (map walked_entries walkers.old) ≤ most_scopes_in_all }
@@ -53,13 +53,13 @@ fn tree_of(alloc: Global, walkers: &mut [Walker], columns: u32) -> Result<Tree, 
 }
 
 /// The walks over tries, in their order.
-fn walkers_of<'a>(alloc: Global, tries: &[&'a Trie]) -> Result<Vec<Walker<'a>>, Memory>
+fn walkers_of<'a>(alloc: Global, tries: &[&'a Trie]) -> Result<Vec<PeekingWalker<'a>>, Memory>
     ensures each { IfOk result (λ walkers. All (IsWalker []) walkers.items) }
     ensures entries { IfOk result (λ walkers. map walked_entries walkers.items ≡ map (λ t. t.now) tries.now) }
 {
     let mut walkers = Vec::new(alloc);
     for trie in tries {
-        walkers.push(Walker::of(alloc, trie)?)?;
+        walkers.push(PeekingWalker::of(Walker::of(alloc, trie)?))?;
     }
     Ok(walkers)
 }

@@ -1,31 +1,35 @@
 //! Walks over several tries at once, whose nodes are put in one preorder.
 ghost use Rattle.std.specs.Prelude.{◌≡◌, ◌≢◌, ℕ, ◌<◌, ◌≤◌, ◌∷◌, ◌++◌, [], length, map, slice_index_or, All};
 ghost use Rattle.std.specs.Prelude.{IfOk, IfSome, OnOk, None, Some, true};
+ghost use Rattle.std.specs.Option.{option_copied};
 ghost use Rattle.tree_join.specs.declared.walker.Walker.{Walker};
 ghost use Rattle.tree_join.specs.private.Walk.{EndsBy, IsReady, FirstBut, Leads, NotAfter, PassUpTo, Walking, earlier_of};
-ghost use Rattle.tree_join.specs.private.Walk.{walked_entries, head_node, node_before};
+ghost use Rattle.tree_join.specs.private.Walk.{walked_entries, head_node, lent_node, node_before};
 
-use crate::walker::{Walker, is_before};
+use crate::walker::{PeekingWalker, is_before};
 use prof_bytes::Memory;
 use std::alloc::Global;
 use tree_types::Node;
 
 /// The first of two nodes that are next, with the index of its walk.
-fn earlier(first: Option<(usize, Node)>, at: usize, head: Option<Node>) -> Option<(usize, Node)>
-    ensures { result ≡ earlier_of first at head }
+fn earlier<'a>(
+    first: Option<(usize, &'a Node)>,
+    at: usize,
+    head: Option<&'a Node>,
+) -> Option<(usize, &'a Node)>
+    ensures { lent_node result ≡ earlier_of (lent_node first.entry) at (option_copied head.entry) }
 {
     let Some(node) = head else {
         return first;
     };
     match first {
-        Some((_, other)) if !is_before(&node, &other) => first,
+        Some((_, other)) if !is_before(node, other) => first,
         _ => Some((at, node)),
     }
 }
 
 /// The first of the nodes that are next, with the index of its walk. A walk with the index `left_out` is left out.
-fn first_but(walkers: &[Walker], left_out: usize) -> Option<(usize, Node)>
-    requires { All IsReady walkers.now }
+fn first_but(walkers: &[PeekingWalker], left_out: usize) -> Option<(usize, Node)>
     ensures { FirstBut walkers.now left_out (length walkers.now) result }
 {
     let mut first = None;
@@ -34,11 +38,12 @@ fn first_but(walkers: &[Walker], left_out: usize) -> Option<(usize, Node)>
             first = earlier(first, at, walkers[at].head());
         }
     }
-    first
+    let (at, node) = first?;
+    Some((at, *node))
 }
 
 /// Gives a node its number in each walk whose next node it is.
-fn advance_each(walkers: &mut [Walker], node: &Node, number: u32) -> Result<(), Memory>
+fn advance_each(walkers: &mut [PeekingWalker], node: &Node, number: u32) -> Result<(), Memory>
     requires { All IsReady walkers.old }
     ensures { OnOk result (PassUpTo (length walkers.old) node.now number walkers.old walkers.new) }
 {
@@ -52,7 +57,7 @@ fn advance_each(walkers: &mut [Walker], node: &Node, number: u32) -> Result<(), 
 }
 
 /// Puts the first of the nodes that are next in order.
-fn put_first(walkers: &mut [Walker], node: Node, order: &mut Vec<Node>) -> Result<(), Memory>
+fn put_first(walkers: &mut [PeekingWalker], node: Node, order: &mut Vec<Node>) -> Result<(), Memory>
     requires walking { Walking (map walked_entries walkers.old) walkers.old order.old.items }
     requires next { (k : ℕ) × (k < length walkers.old)
         × ((d : Walker) → head_node (slice_index_or walkers.old k d) ≡ Some node) }
@@ -68,7 +73,7 @@ fn put_first(walkers: &mut [Walker], node: Node, order: &mut Vec<Node>) -> Resul
 
 /// Puts the node that is next in one walk in order. It comes before those of the others.
 fn put_own(
-    walkers: &mut [Walker],
+    walkers: &mut [PeekingWalker],
     at: usize,
     node: Node,
     order: &mut Vec<Node>,
@@ -91,23 +96,22 @@ fn put_own(
 }
 
 /// The node that is next in a walk, if it comes before another one.
-fn leading(walker: &Walker, limit: Option<(usize, Node)>) -> Option<Node>
-    requires { IsReady walker.now }
+fn leading(walker: &PeekingWalker, limit: Option<(usize, Node)>) -> Option<Node>
     ensures leads { IfSome result (λ node. (head_node walker.now ≡ Some node)
         × IfSome limit (λ other. node_before node other.1 ≡ true)) }
     ensures ends { result ≡ None → EndsBy limit walker.now }
 {
     let node = walker.head()?;
     match limit {
-        Some((_, other)) if !is_before(&node, &other) => None,
-        _ => Some(node),
+        Some((_, other)) if !is_before(node, &other) => None,
+        _ => Some(*node),
     }
 }
 
 /// Puts nodes of one walk in order, as long as they come before what is next in the others; the first of the nodes that
 /// are next then, with the index of its walk.
 fn put_run(
-    walkers: &mut [Walker],
+    walkers: &mut [PeekingWalker],
     at: usize,
     order: &mut Vec<Node>,
 ) -> Result<Option<(usize, Node)>, Memory>
@@ -125,7 +129,7 @@ fn put_run(
 }
 
 /// Puts all nodes in preorder, siblings by their scopes, those of one path once.
-pub fn walk(alloc: Global, walkers: &mut [Walker]) -> Result<Vec<Node>, Memory>
+pub fn walk(alloc: Global, walkers: &mut [PeekingWalker]) -> Result<Vec<Node>, Memory>
     requires { Walking (map walked_entries walkers.old) walkers.old [] }
     ensures walking { IfOk result (λ order. Walking (map walked_entries walkers.old) walkers.new order.items) }
     ensures ended { OnOk result (All (λ w. head_node w ≡ None) walkers.new) }

@@ -1,5 +1,6 @@
 //! A walk over one trie's nodes in preorder.
 ghost use Rattle.std.specs.Prelude.{◌≡◌, ◌<◌, ◌≤◌, ◌≢◌, [], length, replicate, IfOk, OnOk, None, Some, true, false};
+ghost use Rattle.std.specs.Option.{option_copied};
 ghost use Rattle.scope_types.specs.Limits.{most_samples};
 ghost use Rattle.tree_types.specs.Nodes.{no_parent};
 ghost use Rattle.path_trie.specs.Trie.{samples_of};
@@ -10,7 +11,9 @@ ghost use Rattle.tree_join.specs.private.Walk.{walked_entries, head_node};
 use crate::children::Children;
 use path_trie::{PathEnd, Trie};
 use prof_bytes::Memory;
+use scope_types::{RootKind, Scope};
 use std::alloc::Global;
+use std::marker::Model;
 use tree_types::{NO_PARENT, Node};
 
 /// A trie's ends and children; the number of each of its nodes that is put in order; and the indices of those that
@@ -25,24 +28,35 @@ pub struct Walker<'a> {
 
 /// The number of a parent, of which `NO_PARENT` is none.
 fn parent_number(numbers: &[u32], parent: u32) -> u32
-    requires { parent ≢ no_parent → parent < length numbers.now }
     ensures { result ≡ parent_number_at numbers.now parent }
 {
     if parent == NO_PARENT {
-        NO_PARENT
-    } else {
-        numbers[parent as usize]
+        return NO_PARENT;
+    }
+    match numbers.get(parent as usize) {
+        Some(number) => *number,
+        None => NO_PARENT,
+    }
+}
+
+/// The node with an index, or else a root.
+fn node_at(nodes: &[Node], index: u32) -> Node
+    ensures { result ≡ linked_node nodes.now index }
+{
+    match nodes.get(index as usize) {
+        Some(node) => *node,
+        None => Node {
+            parent: NO_PARENT,
+            scope: Scope::Root(RootKind::Thread),
+        },
     }
 }
 
 /// A node as it is put in order, with its parent's number.
 fn in_order(nodes: &[Node], numbers: &[u32], index: u32) -> Node
-    requires index { index < length nodes.now }
-    requires parent { (linked_node nodes.now index).parent ≢ no_parent
-        → (linked_node nodes.now index).parent < length numbers.now }
     ensures { result ≡ renumbered nodes.now numbers.now index }
 {
-    let node = nodes[index as usize];
+    let node = node_at(nodes, index);
     Node {
         parent: parent_number(numbers, node.parent),
         scope: node.scope,
@@ -86,22 +100,81 @@ impl<'a> Walker<'a> {
     }
 
     /// The node that is next, as it is put in order.
-    pub fn head(&self) -> Option<Node>
-        requires { IsReady self.now }
+    fn head(&self) -> Option<Node>
         ensures { result ≡ head_node self.now }
     {
         let index = *self.stack.last()?;
         Some(in_order(self.children.nodes, self.numbers.as_slice(), index))
     }
 
+    /// Gives the node that is next a number. Its children are next.
+    fn advance(&mut self, number: u32) -> Result<(), Memory>
+        requires { IsReady self.old }
+        ensures { OnOk result (head_node self.old ≢ None → Advances number self.old self.new) }
+    {
+        if let Some(index) = self.stack.pop() {
+            self.numbers[index as usize] = number;
+            self.children.push(index, &mut self.stack)?;
+        }
+        Ok(())
+    }
+}
+
+/// A walker that keeps the node that is next, which is looked at many times before it changes. Contracts see the walker.
+#[derive(Drop)]
+pub struct PeekingWalker<'a> {
+    walker: Walker<'a>,
+    next: Option<Node>,
+}
+
+impl<'a> Model for PeekingWalker<'a> {
+    ghost use Rattle.std.specs.Prelude.{◌≡◌};
+    ghost use Rattle.tree_join.specs.declared.walker.Walker.{Walker};
+    ghost use Rattle.tree_join.specs.private.Walk.{head_node};
+
+    ghost Value = { Walker };
+
+    ghost view = { λ w. w.walker };
+
+    ghost invariant = { λ w. w.next ≡ head_node w.walker };
+}
+
+impl<'a> PeekingWalker<'a> {
+    pub fn of(walker: Walker<'a>) -> PeekingWalker<'a>
+        ensures { result ≡ walker.entry }
+    {
+        let next = walker.head();
+        PeekingWalker { walker, next }
+    }
+
+    /// Where the paths of the trie's entries end.
+    pub fn ends(&self) -> &[PathEnd]
+        ensures { result.now ≡ self.now.ends.now }
+    {
+        self.walker.ends
+    }
+
+    /// The number of each node that was put in order.
+    pub fn numbers(&self) -> &[u32]
+        ensures { result.now ≡ self.now.numbers.items }
+    {
+        self.walker.numbers.as_slice()
+    }
+
+    /// The node that is next, as it is put in order.
+    pub fn head(&self) -> Option<&Node>
+        ensures { option_copied result ≡ head_node self.now }
+    {
+        self.next.as_ref()
+    }
+
     /// Whether a node is next.
     pub fn is_next(&self, node: &Node) -> bool
-        requires { IsReady self.now }
         ensures yes { result ≡ true → head_node self.now ≡ Some node.now }
         ensures no { result ≡ false → head_node self.now ≢ Some node.now }
     {
         match self.head() {
-            Some(head) => head == *node,
+            Some(head) => head == node,
             None => false,
         }
     }
@@ -111,10 +184,8 @@ impl<'a> Walker<'a> {
         requires { IsReady self.old }
         ensures { OnOk result (head_node self.old ≢ None → Advances number self.old self.new) }
     {
-        if let Some(index) = self.stack.pop() {
-            self.numbers[index as usize] = number;
-            self.children.push(index, &mut self.stack)?;
-        }
-        Ok(())
+        let advanced = self.walker.advance(number);
+        self.next = self.walker.head();
+        advanced
     }
 }

@@ -2,6 +2,7 @@
 use Rattle.std.specs.Prelude.{◌≡◌, ◌≢◌, ℕ, ◌-◌, ◌<◌, ◌≤◌, ◌==◌, ◌&&◌, ◌||◌, ◌⊎◌, nat_lt, List, [], ◌∷◌, ◌++◌, length}
 use Rattle.std.specs.Prelude.{map, All, AllPairs, Contains, Bool, true, false, Option, None, Some, IfSome}
 use Rattle.std.specs.Prelude.{slice_get, slice_index_or, slice_set, if◌then◌else◌}
+use Rattle.std.specs.Borrow.{Bor}
 use Rattle.std.specs.List.{flat_map}
 use Rattle.std.specs.Ordering.{is_lt}
 use Rattle.std.specs.declared.cmp.Ordering.TheVariants.{Less}
@@ -177,6 +178,11 @@ abbrev pub earlier_of : Option (ℕ × Node) → ℕ → Option Node → Option 
 earlier_of first at None = first
 earlier_of None at (Some node) = Some (at, node)
 earlier_of (Some first) at (Some node) = if node_before node first.1 then Some (at, node) else Some first
+
+-- a node that is lent, and the index of its walk
+abbrev pub lent_node : Option (ℕ × Bor Node) → Option (ℕ × Node)
+lent_node None = None
+lent_node (Some first) = Some (first.0, first.1.now)
 
 -- of the first k walks but one, the first of the nodes that are next, with the index of its walk
 abbrev pub FirstBut : List Walker → ℕ → ℕ → Option (ℕ × Node) → Type 0

@@ -1,5 +1,5 @@
-use Rattle.tree_join.specs.private.Walk.{FirstBut}
+use Rattle.tree_join.specs.private.Walk.{FirstBut, lent_node}
 use Rattle.tree_join.proofs.walk.first_but.Given as goal
 
 abbrev pub invariant-loop-at : goal.invariant-loop-at
-invariant-loop-at l = FirstBut l.walkers l.left_out l.at l.first
+invariant-loop-at l = FirstBut l.walkers l.left_out l.at (lent_node l.first)
