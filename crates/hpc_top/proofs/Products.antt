@@ -1,5 +1,5 @@
 -- What is made of a run's samples that were counted, planned and merged.
-use Rattle.std.proofs.Common.{◌≡◌, ℕ, IsTrue, List, [], ◌∷◌, ◌++◌, length, Result, Ok, refl, sym, ap, subst, ◌∙◌, arith}
+use Rattle.std.proofs.Common.{◌≡◌, ℕ, IsTrue, List, [], ◌∷◌, ◌++◌, length, Result, Ok, sym, ap, subst, ◌∙◌}
 use Rattle.prof_bytes.specs.declared.fail.Fail.{Fail}
 use Rattle.prof_bytes.specs.Outcome.{◌>>=◌, FailsBy}
 use Rattle.scope_types.specs.declared.event.EventPeriod.{EventPeriod}
@@ -14,6 +14,7 @@ use Rattle.program_run.specs.declared.counting.CountedRun.{CountedRun}
 use Rattle.run_profile.specs.declared.merged.Merged.{Merged}
 use Rattle.hpc_top.specs.declared.profiling.ProfiledRun.{ProfiledRun}
 use Rattle.hpc_top.specs.declared.status.Made.{Made}
+use Rattle.hpc_top.specs.declared.summary.RunSummary.{RunSummary}
 use Rattle.run_profile.specs.Attribution.{Attributed, attributed, call_paths_of}
 use Rattle.hpc_top.specs.Made.{product_in}
 use Rattle.program_run.specs.Measured.{Measured, lines_of}
@@ -24,7 +25,7 @@ use Rattle.hpc_top.specs.commands.Profile.{Profiled, product_of, profile_of, pro
 use Rattle.program_run.specs.Counting.{IsCount}
 use Rattle.run_profile.specs.EventTexts.{lines_of_events, tables_in}
 use Rattle.run_profile.specs.Merging.{IsMergeOf, Merges}
-use Rattle.hpc_top.specs.private.Profiling.{IsMadeBy, IsProfileOf, IsReportOf, Profiles}
+use Rattle.hpc_top.specs.private.Profiling.{IsMadeBy, IsProfileOf, IsReportOf, IsSummaryOf, Profiles}
 use Rattle.run_profile.proofs.EventTables.{tables_are}
 use Rattle.run_profile.proofs.Products.{ContentsAlike, EventsAlike, TablesAlike, all_content, all_tables, attributed_as, samples_as}
 use Rattle.command_line.proofs.Faults.{fails_next}
@@ -52,18 +53,18 @@ module _ (scopes : ProgramScopes) (events : List EventPeriod) (m : Measured) (ru
       fails_next (λ a. Ok (record { measured = m; attributed = a })) fail (attributed scopes m.events (m.harts ∷ []) m.samples)
       (subst (FailsBy fail) own_attributed refused)
 
-  pub profiled_is : (by : Merging) (r : Merged) → Merges by (Ok r) (attributed scopes events runs m.samples) → IsEventProfile r.content → length r.content.runs ≡ 1 → r.content.events ≡ events → Profiles by events (Ok (record { run = run; merged = r })) (profiled scopes m)
-  profiled_is by r (a, is, merged) profile run_is events_is =
+  pub profiled_is : (by : Merging) (summary : RunSummary) (r : Merged) → IsSummaryOf m summary → Merges by (Ok r) (attributed scopes events runs m.samples) → IsEventProfile r.content → length r.content.runs ≡ 1 → r.content.events ≡ events → Profiles by (Ok (record { summary = summary; merged = r })) (profiled scopes m)
+  profiled_is by summary r told (a, is, merged) profile run_is events_is =
       let here : attributed scopes m.events (m.harts ∷ []) m.samples ≡ Ok a = sym own_attributed ∙ is in
       let same : a ≡ samples_as scopes m.events (m.harts ∷ []) m.samples = attributed_as scopes m.events (m.harts ∷ []) m.samples a here in (
         record { measured = m; attributed = a },
         ap (λ (r : Result Attributed InputFault). r >>= λ a. Ok (record { measured = m; attributed = a })) here,
         record {
-          count = count;
+          summary = told;
           merged = merged;
           profile = profile;
           run = run_is;
-          own_events = events_is;
+          events = events_is ∙ sym count.same;
           same_events = ap (λ (q : Attributed). q.events) same;
           same_samples = ap (λ (q : Attributed). q.samples) same;
         },
@@ -77,8 +78,8 @@ report_is m content made database report text lines = record { database = databa
 
 module _ (by : Merging) (contents : ContentsAlike) (tables : TablesAlike) (each : EventsAlike) where
   -- and the lines on the run before the tables
-  made_is : (events : List EventPeriod) (p : Profiled) (r : ProfiledRun) (made : Made) → IsProfileOf by events p r → IsMadeBy p.measured r.merged made → IsMadeOf by p made
-  made_is events p r made is parts =
+  made_is : (p : Profiled) (r : ProfiledRun) (made : Made) → IsProfileOf by p r → IsMadeBy p.measured r.merged made → IsMadeOf by p made
+  made_is p r made is parts =
       let a : Attributed = p.attributed in
       let m : Merged = record { content = r.merged.content; crew = made.crew } in
       let here : IsMergeOf by a m = subst (λ (c : Crew). IsMergeOf by a (record { content = r.merged.content; crew = c })) (sym parts.crew) is.merged in
@@ -98,5 +99,5 @@ module _ (by : Merging) (contents : ContentsAlike) (tables : TablesAlike) (each 
             λ i. record { stored = s i; text = t i };
       }
 
-  pub makes : (events : List EventPeriod) (wanted : Result Profiled InputFault) (r : ProfiledRun) (made : Made) → Profiles by events (Ok r) wanted → ((m : Measured) → IsCount events m r.run → IsMadeBy m r.merged made) → MakesBy by (Ok made) wanted
-  makes events wanted r made (p, is, profile) parts = (p, is, made_is events p r made profile (parts p.measured profile.count))
+  pub makes : (wanted : Result Profiled InputFault) (r : ProfiledRun) (made : Made) → Profiles by (Ok r) wanted → ((m : Measured) → IsSummaryOf m r.summary → IsMadeBy m r.merged made) → MakesBy by (Ok made) wanted
+  makes wanted r made (p, is, profile) parts = (p, is, made_is p r made profile (parts p.measured profile.summary))

@@ -16,6 +16,7 @@ mod profiling;
 mod runs;
 mod status;
 mod steps;
+mod summary;
 
 pub use call::hpc_main;
 pub use command_line::{FileKind, InputFault, MergeFault, Place, Product, Status, out_of_memory};

@@ -17,6 +17,7 @@ ghost use Rattle.hpc_top.specs.private.LiveRuns.{product_or, run_attributed};
 use crate::code_addresses::{finder_of_code, lines_of_code};
 use crate::commands::profile::{Job, report_of};
 use crate::profiling::{ReadJob, read_job};
+use crate::summary::summary_of;
 use cfi_table::FrameTable;
 use cfi_unwind::Unwinder;
 use command_line::{InputFault, Product};
@@ -173,8 +174,10 @@ fn made_live<R: Threads + Sync>(
 {
     let LiveRun { run, tree } = live;
     let runs = [run.harts];
+    let summary = summary_of(alloc, events, &run)?;
+    drop(run);
     let content = content_of_tree(rt, alloc, events, &runs, expander, tree)?;
-    report_of(rt, alloc, events, run, content)
+    report_of(rt, alloc, summary, content)
 }
 
 /// The database and the report of the run of a program whose debug information was read, or its refusal.

@@ -12,6 +12,7 @@ ghost use Rattle.program_run.specs.Counting.{IsCount};
 ghost use Rattle.hpc_top.specs.private.Profiling.{Profiles, files_from, files_in, files_of};
 
 use crate::commands::profile::Job;
+use crate::summary::{RunSummary, summary_of};
 use cfi_table::FrameTable;
 use command_line::InputFault;
 use dwarf_inline::Structure;
@@ -26,10 +27,10 @@ use scope_find::Finder;
 use std::alloc::Global;
 use std::thread::Threads;
 
-/// A counted run, and what was merged of its samples.
+/// What is told of a run, and what was merged of its samples.
 #[derive(Drop)]
-pub struct ProfiledRun<'a> {
-    pub run: CountedRun<'a>,
+pub struct ProfiledRun {
+    pub summary: RunSummary,
     pub merged: Merged,
 }
 
@@ -44,27 +45,29 @@ pub struct ReadJob<'a> {
 }
 
 /// What is merged of a run's samples, unless these have too many scopes.
-fn merge_run<'a, R: Threads + Sync, C: Crews>(
+fn merge_run<R: Threads + Sync, C: Crews>(
     rt: &R,
     alloc: Global,
     merge: &Merge<'_, C>,
     finder: &Finder<'_>,
-    run: CountedRun<'a>,
-) -> Result<ProfiledRun<'a>, Fail<InputFault>>
+    run: CountedRun<'_>,
+) -> Result<ProfiledRun, Fail<InputFault>>
     requires events { AreEvents merge.now.events.now }
     requires runs { merge.now.runs.now ≡ run.harts ∷ [] }
     requires workers { (1 ≤ merge.now.workers) × (merge.now.workers ≤ most_workers) }
     requires counted { (m : Measured) × IsCount merge.now.events.now m run }
     ensures { (m : Measured) → IsCount merge.now.events.now m run.entry
-        → Profiles (merging (C.gives merge.now.crews.now) (C.whole merge.now.crews.now) merge.now.workers)
-        merge.now.events.now result (profiled finder.now m) }
+        → Profiles (merging (C.gives merge.now.crews.now) (C.whole merge.now.crews.now) merge.now.workers) result
+        (profiled finder.now m) }
 {
-    let merged = merge_samples(rt, alloc, merge, finder, &run.ccts)?;
-    Ok(ProfiledRun { run, merged })
+    let summary = summary_of(alloc, merge.events, &run)?;
+    let CountedRun { ccts, .. } = run;
+    let merged = merge_samples(rt, alloc, merge, finder, ccts)?;
+    Ok(ProfiledRun { summary, merged })
 }
 
 /// What is merged of a run's samples by a program's debug information, unless these have too many scopes.
-fn merge_scopes<'a, R: Threads + Sync, C: Crews>(
+fn merge_scopes<R: Threads + Sync, C: Crews>(
     rt: &R,
     alloc: Global,
     job: &Job<'_>,
@@ -72,13 +75,13 @@ fn merge_scopes<'a, R: Threads + Sync, C: Crews>(
     image: &Image<'_>,
     lines: LineTable<'_>,
     structure: &Structure<'_>,
-    run: CountedRun<'a>,
-) -> Result<ProfiledRun<'a>, Fail<InputFault>>
+    run: CountedRun<'_>,
+) -> Result<ProfiledRun, Fail<InputFault>>
     requires job { IsJob job.now }
     requires counted { (m : Measured) × IsCount job.now.periods.now m run }
     ensures { (m : Measured) → IsCount job.now.periods.now m run.entry
-        → Profiles (merging (C.gives crews.now) (C.whole crews.now) job.now.workers) job.now.periods.now
-        result (profiled (record { structure = structure.now; lines = lines.entry; image = image.now }) m) }
+        → Profiles (merging (C.gives crews.now) (C.whole crews.now) job.now.workers) result
+        (profiled (record { structure = structure.now; lines = lines.entry; image = image.now }) m) }
 {
     let lines = lines_of_samples(alloc, lines, &run.ccts)?;
     let finder = finder_of_samples(alloc, structure, &lines, image, &run.ccts)?;
@@ -103,10 +106,9 @@ fn profile_program<'a, R: Threads + Sync, C: Crews>(
     table: &FrameTable,
     lines: LineTable<'_>,
     structure: &Structure<'_>,
-) -> Result<ProfiledRun<'a>, Fail<InputFault>>
+) -> Result<ProfiledRun, Fail<InputFault>>
     requires job { IsJob job.now }
-    ensures { Profiles (merging (C.gives crews.now) (C.whole crews.now) job.now.workers) job.now.periods.now
-        result
+    ensures { Profiles (merging (C.gives crews.now) (C.whole crews.now) job.now.workers) result
         (profiled_program image.now (descriptions table.now)
         (record { structure = structure.now; lines = lines.entry; image = image.now }) schedule job.now.input.now
         job.now.periods.now) }
@@ -159,10 +161,9 @@ pub fn profile_run<'a, R: Threads + Sync, C: Crews>(
     alloc: Global,
     job: &Job<'a>,
     crews: &C,
-) -> Result<ProfiledRun<'a>, Fail<InputFault>>
+) -> Result<ProfiledRun, Fail<InputFault>>
     requires job { IsJob job.now }
-    ensures { Profiles (merging (C.gives crews.now) (C.whole crews.now) job.now.workers) job.now.periods.now
-        result
+    ensures { Profiles (merging (C.gives crews.now) (C.whole crews.now) job.now.workers) result
         (profiled_of job.now.elf.now job.now.input.now job.now.schedule.now job.now.periods.now) }
 {
     let read = read_job(alloc, job)?;

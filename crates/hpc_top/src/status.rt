@@ -3,15 +3,15 @@ ghost use Rattle.hpc_top.specs.private.Stop.{IsStopOf, answer_of};
 ghost use Rattle.hpc_top.specs.declared.status.Stop.TheVariants as stops;
 
 use command_line::{InputFault, Place, Status};
-use merge_crew::Crew;
 use prof_bytes::{Fail, Memory, Text};
+use run_profile::DoneCrew;
 
 /// What is made of a run: a database, the report on it, and what the crew that merged it has done.
 #[derive(Drop)]
 pub struct Made {
     pub database: Text,
     pub report: Text,
-    pub crew: Crew,
+    pub crew: DoneCrew,
 }
 
 /// Why a command stops early.

@@ -1,7 +1,6 @@
 -- What is made of samples that were counted, planned and merged.
-use Rattle.std.proofs.Common.{◌≡◌, ℕ, ◌<◌, nat_lt, Bool, true, false, if◌then◌else◌, IfOk, IsTrue, List, [], ◌++◌, length, sum, All, Result, Ok, Err, refl, sym, ap, subst, ◌∙◌, arith}
+use Rattle.std.proofs.Common.{◌≡◌, ℕ, ◌<◌, nat_lt, Bool, true, false, if◌then◌else◌, IsTrue, List, [], ◌++◌, length, sum, All, Result, Ok, Err, refl, sym, ap, subst, ◌∙◌, arith}
 use Rattle.prof_bytes.specs.declared.fail.Fail.{Fail}
-use Rattle.prof_bytes.specs.declared.fail.Memory.{Memory}
 use Rattle.prof_bytes.specs.declared.fail.Fail.TheVariants as fails
 use Rattle.prof_bytes.specs.Outcome.{◌>>=◌, FailsBy}
 use Rattle.scope_types.specs.declared.event.EventPeriod.{EventPeriod}
@@ -143,11 +142,11 @@ crew_is by scopes events runs ccts samples counts held own plan crew columns pla
     )
 
 -- and the content of the pieces that the crew's stripes name
-pub merge_is : (by : Merging) (scopes : ProgramScopes) (events : List EventPeriod) (runs : List ℕ) (samples : List ColumnRaw) (crew : Crew) (columns : ℕ) (made : Result EventContent Memory) → CrewMerges by (Ok (crew, columns)) (attributed scopes events runs samples)
-    → IfOk made (λ content. content ≡ event_content_of events runs (naming_of scopes) (named_paths crew.stripes))
-    → ((place : ℕ) → place < length events → IfOk made (λ content. content_table (content_of_event content place) ≡ top_down (period_at events place) (sum runs) (naming_of scopes) (paths_of_event (length events) place (named_paths crew.stripes))))
-    → IfOk made (λ content. Merges by (Ok (record { content = content; crew = crew })) (attributed scopes events runs samples))
-merge_is by scopes events runs samples crew columns (Ok content) (a, is, merged) content_is tables =
+pub merge_is : (by : Merging) (scopes : ProgramScopes) (events : List EventPeriod) (runs : List ℕ) (samples : List ColumnRaw) (crew : Crew) (columns : ℕ) (content : EventContent) → CrewMerges by (Ok (crew, columns)) (attributed scopes events runs samples)
+    → content ≡ event_content_of events runs (naming_of scopes) (named_paths crew.stripes)
+    → ((place : ℕ) → place < length events → content_table (content_of_event content place) ≡ top_down (period_at events place) (sum runs) (naming_of scopes) (paths_of_event (length events) place (named_paths crew.stripes)))
+    → Merges by (Ok (record { content = content; crew = crew })) (attributed scopes events runs samples)
+merge_is by scopes events runs samples crew columns content (a, is, merged) content_is tables =
     let same : samples_as scopes events runs samples ≡ a = sym (attributed_as scopes events runs samples a is) in (
       a,
       is,
@@ -157,7 +156,6 @@ merge_is by scopes events runs samples crew columns (Ok content) (a, is, merged)
         tables = subst (λ (q : Attributed). HasTables content q (named_paths crew.stripes)) same (tables_of scopes events runs samples (named_paths crew.stripes) content tables);
       },
     )
-merge_is by scopes events runs samples crew columns (Err memory) merged content_is tables = tt
 
 -- ---- what is made of it
 

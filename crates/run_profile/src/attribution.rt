@@ -12,7 +12,7 @@ ghost use Rattle.run_profile.specs.Attribution.{attribution_or};
 
 use crate::both::database_and_tables;
 use crate::events::event_lines;
-use crate::merged::{Merge, content_of_crew, crew_of};
+use crate::merged::{Merge, Merged, merge_samples};
 use crate::sampled_addresses::finder_of_samples;
 use command_line::{InputFault, Product, no_text};
 use dwarf_inline::Structure;
@@ -27,8 +27,7 @@ use std::thread::Threads;
 use thread_cct::Ccts;
 use tree_types::{counts_decide, event_content_holds_its_paths, event_paths_are_paths};
 
-/// What is made of counted samples, unless these have too many scopes. The samples are dropped once they are merged,
-/// and the crew's stripes before the database and the tables are made.
+/// What is made of counted samples, unless these have too many scopes.
 fn attribute_counted<R: Threads + Sync, C: Crews>(
     rt: &R,
     alloc: Global,
@@ -49,11 +48,8 @@ fn attribute_counted<R: Threads + Sync, C: Crews>(
     counts_decide();
     event_content_holds_its_paths();
     event_paths_are_paths();
-    let (crew, columns) = crew_of(rt, alloc, merge, finder, &ccts)?;
     let lines = event_lines(alloc, merge.events, &ccts)?;
-    drop(ccts);
-    let content = content_of_crew(rt, alloc, merge, finder, &crew, columns)?;
-    drop(crew);
+    let Merged { content, .. } = merge_samples(rt, alloc, merge, finder, ccts)?;
     let (stored, text) = database_and_tables(rt, alloc, no_text(alloc), lines.as_slice(), content)?;
     Ok(Product { stored, text })
 }

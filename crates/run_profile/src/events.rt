@@ -17,6 +17,7 @@ use thread_cct::Ccts;
 pub fn periods_of(alloc: Global, events: &[EventPeriod]) -> Result<Vec<u32>, Memory>
     ensures { IfOk result (λ periods. periods.items ≡ periods_of events.now) }
 {
+    // list: one period for each event
     let periods = events.iter().map(|event| event.period).collect(alloc)?;
     Ok(periods)
 }

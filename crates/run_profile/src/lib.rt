@@ -9,6 +9,7 @@
 mod attribution;
 mod both;
 pub mod commands;
+mod done_crew;
 mod events;
 mod merged;
 mod sampled_addresses;
@@ -16,6 +17,7 @@ mod table;
 
 pub use attribution::attribute_scopes;
 pub use both::database_and_tables;
+pub use done_crew::DoneCrew;
 pub use events::event_lines;
 pub use merged::{Merge, Merged, content_of_tree, merge_samples};
 pub use sampled_addresses::{finder_of_samples, lines_of_samples};

@@ -18,6 +18,7 @@ ghost use Rattle.run_profile.specs.Attribution.{attributed};
 ghost use Rattle.run_profile.specs.Merging.{merging};
 ghost use Rattle.run_profile.specs.Merging.{AreRuns, CrewMerges, IsTreeOf, Merges, few_planned};
 
+use crate::done_crew::DoneCrew;
 use crate::events::periods_of;
 use command_line::{InputFault, copied_events};
 use merge_crew::{Crew, Crews};
@@ -49,7 +50,7 @@ pub struct Merge<'a, C> {
 #[derive(Drop)]
 pub struct Merged {
     pub content: EventContent,
-    pub crew: Crew,
+    pub crew: DoneCrew,
 }
 
 /// The plan of a merge, unless its call paths have too many scopes.
@@ -121,7 +122,7 @@ pub fn content_of_tree<R: Threads + Sync>(
     })
 }
 
-/// The content of the pieces that the stripes name.
+/// The content of the pieces that the stripes name. The stripes are freed once they are joined.
 fn content_named<R: Threads + Sync>(
     rt: &R,
     alloc: Global,
@@ -129,28 +130,29 @@ fn content_named<R: Threads + Sync>(
     runs: &[u32],
     columns: u32,
     expander: &Expander<'_>,
-    stripes: &StripeSet,
+    stripes: StripeSet,
 ) -> Result<EventContent, Memory>
     requires events { AreEvents events.now }
     requires runs { AreRuns runs.now }
     requires columns { columns ≡ columns_of (length events.now) runs.now }
-    requires held { AreJoinable stripes.now columns }
+    requires held { AreJoinable stripes columns }
     ensures content { IfOk result (λ content. content
-        ≡ event_content_of events.now runs.now (naming_of expander.now) (named_paths stripes.now)) }
+        ≡ event_content_of events.now runs.now (naming_of expander.now) (named_paths stripes)) }
     ensures profile { IfOk result (λ content. IsEventProfile content) }
     ensures runs { IfOk result (λ content. content.runs ≡ runs.now) }
     ensures events { IfOk result (λ content. content.events ≡ events.now) }
     ensures tables { (place : ℕ) → place < length events.now → IfOk result (λ content.
         content_table (content_of_event content place)
         ≡ top_down (period_at events.now place) (sum runs.now) (naming_of expander.now)
-        (paths_of_event (length events.now) place (named_paths stripes.now))) }
+        (paths_of_event (length events.now) place (named_paths stripes))) }
 {
-    let tree = join_stripes(alloc, stripes, columns)?;
+    let tree = join_stripes(alloc, &stripes, columns)?;
+    drop(stripes);
     content_of_tree(rt, alloc, events, runs, expander, tree)
 }
 
 /// What a crew merges of counted samples, and the number of their columns, unless these have too many scopes.
-pub fn crew_of<R: Threads + Sync, C: Crews>(
+fn crew_of<R: Threads + Sync, C: Crews>(
     rt: &R,
     alloc: Global,
     merge: &Merge<'_, C>,
@@ -179,63 +181,67 @@ pub fn crew_of<R: Threads + Sync, C: Crews>(
     Ok((crew, columns))
 }
 
-/// The content of the pieces that a crew's stripes name, where the crew merged samples of so many columns.
-pub fn content_of_crew<R: Threads + Sync, C: Crews>(
+/// What a crew leaves that merged samples of so many columns. Its stripes are freed once they are joined.
+fn merged_by<R: Threads + Sync, C: Crews>(
     rt: &R,
     alloc: Global,
     merge: &Merge<'_, C>,
     finder: &Finder<'_>,
-    crew: &Crew,
+    crew: Crew,
     columns: u32,
-) -> Result<EventContent, Memory>
+) -> Result<Merged, Memory>
     requires events { AreEvents merge.now.events.now }
     requires runs { AreRuns merge.now.runs.now }
     requires columns { columns ≡ columns_of (length merge.now.events.now) merge.now.runs.now }
-    requires held { AreJoinable crew.now.stripes columns }
+    requires held { AreJoinable crew.stripes columns }
     ensures merged { (samples : List ColumnRaw)
         → CrewMerges (merging (C.gives merge.now.crews.now) (C.whole merge.now.crews.now) merge.now.workers)
-        (Ok (crew.now, columns)) (attributed finder.now merge.now.events.now merge.now.runs.now samples)
-        → IfOk result (λ content.
+        (Ok (crew, columns)) (attributed finder.now merge.now.events.now merge.now.runs.now samples)
+        → IfOk result (λ merged.
         Merges (merging (C.gives merge.now.crews.now) (C.whole merge.now.crews.now) merge.now.workers)
-        (Ok (record { content = content; crew = crew.now }))
-        (attributed finder.now merge.now.events.now merge.now.runs.now samples)) }
-    ensures profile { IfOk result (λ content. IsEventProfile content) }
-    ensures runs { IfOk result (λ content. content.runs ≡ merge.now.runs.now) }
-    ensures events { IfOk result (λ content. content.events ≡ merge.now.events.now) }
+        (Ok merged) (attributed finder.now merge.now.events.now merge.now.runs.now samples)) }
+    ensures profile { IfOk result (λ merged. IsEventProfile merged.content) }
+    ensures runs { IfOk result (λ merged. merged.content.runs ≡ merge.now.runs.now) }
+    ensures events { IfOk result (λ merged. merged.content.events ≡ merge.now.events.now) }
 {
     let expander = Expander::of(alloc, finder);
-    content_named(
+    let done = DoneCrew::of(&crew);
+    let content = content_named(
         rt,
         alloc,
         merge.events,
         merge.runs,
         columns,
         &expander,
-        &crew.stripes,
-    )
+        crew.stripes,
+    )?;
+    Ok(Merged {
+        content,
+        crew: done,
+    })
 }
 
-/// What is merged of counted samples, unless these have too many scopes.
+/// What is merged of counted samples, unless these have too many scopes. They are dropped once the crew has merged them.
 pub fn merge_samples<R: Threads + Sync, C: Crews>(
     rt: &R,
     alloc: Global,
     merge: &Merge<'_, C>,
     finder: &Finder<'_>,
-    ccts: &Ccts,
+    ccts: Ccts,
 ) -> Result<Merged, Fail<InputFault>>
     requires events { AreEvents merge.now.events.now }
     requires runs { AreRuns merge.now.runs.now }
-    requires columns { length ccts.now ≡ columns_of (length merge.now.events.now) merge.now.runs.now }
+    requires columns { length ccts ≡ columns_of (length merge.now.events.now) merge.now.runs.now }
     requires workers { (1 ≤ merge.now.workers) × (merge.now.workers ≤ most_workers) }
-    ensures merged { (samples : List ColumnRaw) → ccts.now ≡ distinct (length ccts.now) samples
-        → All (λ s. s.column < length ccts.now) samples
+    ensures merged { (samples : List ColumnRaw) → ccts ≡ distinct (length ccts) samples
+        → All (λ s. s.column < length ccts) samples
         → Merges (merging (C.gives merge.now.crews.now) (C.whole merge.now.crews.now) merge.now.workers) result
         (attributed finder.now merge.now.events.now merge.now.runs.now samples) }
     ensures profile { IfOk result (λ merged. IsEventProfile merged.content) }
     ensures runs { IfOk result (λ merged. merged.content.runs ≡ merge.now.runs.now) }
     ensures events { IfOk result (λ merged. merged.content.events ≡ merge.now.events.now) }
 {
-    let (crew, columns) = crew_of(rt, alloc, merge, finder, ccts)?;
-    let content = content_of_crew(rt, alloc, merge, finder, &crew, columns)?;
-    Ok(Merged { content, crew })
+    let (crew, columns) = crew_of(rt, alloc, merge, finder, &ccts)?;
+    drop(ccts);
+    Ok(merged_by(rt, alloc, merge, finder, crew, columns)?)
 }

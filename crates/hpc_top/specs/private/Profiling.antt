@@ -1,5 +1,5 @@
--- A run's profile, as `profile` and `drill` take it: its counted samples, and what was merged of these.
-use Rattle.std.specs.Prelude.{◌≡◌, ℕ, ◌++◌, List, length, Result, Ok, Err}
+-- A run's profile, as `profile` and `drill` take it: what is told of the run, and what was merged of its samples.
+use Rattle.std.specs.Prelude.{◌≡◌, ℕ, ◌++◌, true, List, [], ◌∷◌, length, Result, Ok, Err}
 use Rattle.prof_bytes.specs.declared.fail.Fail.{Fail}
 use Rattle.prof_bytes.specs.Outcome.{◌>>=◌, FailsBy}
 use Rattle.cfi_table.specs.Frames.{FrameDescription, descriptions}
@@ -7,13 +7,16 @@ use Rattle.elf_image.specs.Image.{ProgramImage}
 use Rattle.prof_db.specs.Spelling.{events_spelling}
 use Rattle.rv_run.specs.Schedule.{Scheduled}
 use Rattle.scope_find.specs.Found.{ProgramScopes}
+use Rattle.run_report.specs.Drill.{retired_by}
 use Rattle.scope_types.specs.declared.event.EventPeriod.{EventPeriod}
+use Rattle.scope_types.specs.Events.{is_retired_alone}
 use Rattle.tree_types.specs.declared.content.EventContent.{EventContent}
 use Rattle.tree_types.specs.OfContent.{IsEventProfile}
 use Rattle.command_line.specs.declared.status.InputFault.{InputFault}
 use Rattle.run_profile.specs.declared.merged.Merged.{Merged}
 use Rattle.hpc_top.specs.declared.profiling.ProfiledRun.{ProfiledRun}
 use Rattle.hpc_top.specs.declared.profiling.ReadJob.{ReadJob}
+use Rattle.hpc_top.specs.declared.summary.RunSummary.{RunSummary}
 use Rattle.hpc_top.specs.declared.status.Made.{Made}
 use Rattle.hpc_top.specs.Made.{product_in}
 use Rattle.program_run.specs.Measured.{Measured, lines_of}
@@ -22,25 +25,33 @@ use Rattle.command_line.specs.declared.product.Product.{Product}
 use Rattle.program_run.specs.Program.{frame_information, program, scheduled}
 use Rattle.program_run.specs.Scopes.{program_scopes}
 use Rattle.hpc_top.specs.commands.Profile.{Profiled, profiled_program}
-use Rattle.program_run.specs.Counting.{IsCount}
 use Rattle.run_profile.specs.EventTexts.{lines_of_events, tables_in}
 use Rattle.run_profile.specs.Merging.{IsMergeOf}
 
--- its samples are counted and merged
-pub record IsProfileOf (by : Merging) (events : List EventPeriod) (p : Profiled) (profiled : ProfiledRun) : Type 0 where
-  pub count : IsCount events p.measured profiled.run
+-- what is told of a measured run: its lines, the line of each event, which is empty where retired is the only event, and
+-- how many instructions and samples all harts have
+pub record IsSummaryOf (m : Measured) (summary : RunSummary) : Type 0 where
+  pub lines : summary.lines ≡ lines_of m
+  pub event_lines : summary.event_lines.items ≡ lines_of_events m.events m.samples
+  pub many : length summary.event_lines.items ≡ length m.events
+  pub alone : is_retired_alone m.events ≡ true → summary.event_lines.items ≡ [] ∷ []
+  pub retired : summary.retired ≡ retired_by m.final
+  pub samples : summary.samples ≡ length m.samples
+
+-- it is told of, and its samples are merged
+pub record IsProfileOf (by : Merging) (p : Profiled) (profiled : ProfiledRun) : Type 0 where
+  pub summary : IsSummaryOf p.measured profiled.summary
   pub merged : IsMergeOf by p.attributed profiled.merged
   pub profile : IsEventProfile profiled.merged.content
   pub run : length profiled.merged.content.runs ≡ 1
-  pub own_events : profiled.merged.content.events ≡ events
+  pub events : profiled.merged.content.events ≡ p.measured.events
   pub same_events : p.attributed.events ≡ p.measured.events
   pub same_samples : p.attributed.samples ≡ p.measured.samples
 
 -- a run's profile, or its refusal, unless memory ran out
-abbrev pub Profiles : Merging → List EventPeriod → Result ProfiledRun (Fail InputFault) → Result Profiled InputFault
-    → Type 0
-Profiles by events (Ok profiled) wanted = (p : Profiled) × (wanted ≡ Ok p) × IsProfileOf by events p profiled
-Profiles by events (Err fail) wanted = FailsBy fail wanted
+abbrev pub Profiles : Merging → Result ProfiledRun (Fail InputFault) → Result Profiled InputFault → Type 0
+Profiles by (Ok profiled) wanted = (p : Profiled) × (wanted ≡ Ok p) × IsProfileOf by p profiled
+Profiles by (Err fail) wanted = FailsBy fail wanted
 
 -- database and report of a run and the content of its samples: the database and the tables are the content's, and in the
 -- report the tables come after the lines on the run, each after its event's line

@@ -1,16 +1,13 @@
 //! `drill`: the guest of a number, profiled, in four lines.
-ghost use Rattle.std.specs.Prelude.{◌≡◌, IfOk, IsTrue, List, length};
+ghost use Rattle.std.specs.Prelude.{◌≡◌, IfOk, IsTrue, length};
 ghost use Rattle.prof_bytes.specs.Outcome.{Gives};
 ghost use Rattle.command_line.specs.Request.{AreWorkers};
 ghost use Rattle.prof_db.specs.Spelling.{events_spelling};
-ghost use Rattle.run_report.specs.Drill.{drill_lines, retired_by};
-ghost use Rattle.scope_types.specs.declared.event.EventPeriod.{EventPeriod};
+ghost use Rattle.run_report.specs.Drill.{drill_lines};
 ghost use Rattle.tree_types.specs.OfContent.{IsEventProfile};
 ghost use Rattle.hpc_top.specs.Job.{IsJob};
-ghost use Rattle.program_run.specs.Measured.{Measured};
 ghost use Rattle.hpc_top.specs.commands.Drill.{drill_makes, drill_product};
 ghost use Rattle.hpc_top.specs.commands.Profile.{profiled_of};
-ghost use Rattle.program_run.specs.Counting.{IsCount};
 ghost use Rattle.hpc_top.specs.private.Products.{drill_or};
 
 use crate::commands::profile::Job;
@@ -22,33 +19,29 @@ use merge_crew::{Crews, WorkCrew};
 use prof_bytes::{Fail, Memory, Text};
 use prof_db::{event_profiles_are_writable, write_events};
 use prof_devices::Gate;
-use run_report::{all_retired, all_samples, drill_lines};
+use run_report::drill_lines;
 use scope_types::EventPeriod;
 use std::alloc::Global;
 use std::thread::Threads;
 use tree_types::{counts_decide, event_content_holds_its_paths, event_paths_are_paths};
 
 /// The four lines on what was profiled, whose database is made for its length and its fold.
-fn lines(alloc: Global, number: u32, profiled: &ProfiledRun<'_>) -> Result<Text, Memory>
+fn lines(alloc: Global, number: u32, profiled: &ProfiledRun) -> Result<Text, Memory>
     requires profile { IsEventProfile profiled.now.merged.content }
     requires run { length profiled.now.merged.content.runs ≡ 1 }
-    requires counted { (events : List EventPeriod) × (m : Measured) × IsCount events m profiled.now.run }
-    ensures { (events : List EventPeriod) (m : Measured) → IsCount events m profiled.now.run
-        → IfOk result (λ text. text
-        ≡ drill_lines number (retired_by m.final) (length m.samples) (length profiled.now.merged.content.nodes)
-        (events_spelling profiled.now.merged.content)) }
+    ensures { IfOk result (λ text. text
+        ≡ drill_lines number profiled.now.summary.retired profiled.now.summary.samples
+        (length profiled.now.merged.content.nodes) (events_spelling profiled.now.merged.content)) }
 {
     event_profiles_are_writable();
     let content = &profiled.merged.content;
     let database = write_events(alloc, content)?;
-    let ccts = &profiled.run.ccts;
-    let retired = all_retired(profiled.run.harts, profiled.run.samples.machine());
     let nodes = content.nodes.items().len() as u64;
     drill_lines(
         alloc,
         number,
-        retired,
-        all_samples(ccts),
+        profiled.summary.retired,
+        profiled.summary.samples,
         nodes,
         database.bytes(),
     )

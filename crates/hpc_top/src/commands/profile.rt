@@ -11,19 +11,18 @@ ghost use Rattle.program_run.specs.Measured.{Measured};
 ghost use Rattle.hpc_top.specs.Merged.{MakesBy};
 ghost use Rattle.run_profile.specs.Merging.{merging};
 ghost use Rattle.hpc_top.specs.commands.Profile.{profile_makes, profile_of, profiled_of};
-ghost use Rattle.program_run.specs.Counting.{IsCount};
-ghost use Rattle.hpc_top.specs.private.Profiling.{IsMadeBy, IsReportOf};
+ghost use Rattle.hpc_top.specs.private.Profiling.{IsMadeBy, IsReportOf, IsSummaryOf};
 ghost use Rattle.command_line.specs.Kind.{AreWithin};
 
 use crate::profiling::{ProfiledRun, profile_run};
 use crate::status::Made;
+use crate::summary::RunSummary;
 use command_line::{InputFault, Product, nothing};
 use hash_key::HashKey;
 use merge_crew::{Crews, WorkCrew};
 use prof_bytes::{Fail, Memory, Text};
 use prof_devices::Gate;
-use program_run::{CountedRun, lines_of};
-use run_profile::{Merged, database_and_tables, event_lines};
+use run_profile::{Merged, database_and_tables};
 use scope_types::EventPeriod;
 use std::alloc::Global;
 use std::thread::Threads;
@@ -43,47 +42,37 @@ pub struct Job<'a> {
     pub key: HashKey,
 }
 
-/// The database and the report of a counted run and the content of its samples.
+/// The database and the report of a run, by what is told of it and the content of its samples.
 pub fn report_of<R: Threads + Sync>(
     rt: &R,
     alloc: Global,
-    events: &[EventPeriod],
-    run: CountedRun<'_>,
+    summary: RunSummary,
     content: EventContent,
 ) -> Result<Product, Memory>
-    requires events { AreEvents events.now }
     requires profile { IsEventProfile content }
     requires run { length content.runs ≡ 1 }
-    requires own { content.events ≡ events.now }
-    requires counted { (m : Measured) × IsCount events.now m run }
-    ensures { (m : Measured) → IsCount events.now m run.entry
-        → IfOk result (λ made. IsReportOf m content made) }
+    requires summary { (m : Measured) × IsSummaryOf m summary × (content.events ≡ m.events) }
+    ensures { (m : Measured) → IsSummaryOf m summary → IfOk result (IsReportOf m content) }
 {
-    let before = lines_of(alloc, events, &run)?;
-    let lines = event_lines(alloc, events, &run.ccts)?;
-    drop(run);
-    let (stored, text) = database_and_tables(rt, alloc, before, lines.as_slice(), content)?;
+    let RunSummary {
+        lines,
+        event_lines,
+        ..
+    } = summary;
+    let (stored, text) = database_and_tables(rt, alloc, lines, event_lines.as_slice(), content)?;
     Ok(Product { stored, text })
 }
 
 /// The database, the report and the crew of what was profiled.
-fn made_of<R: Threads + Sync>(
-    rt: &R,
-    alloc: Global,
-    events: &[EventPeriod],
-    profiled: ProfiledRun<'_>,
-) -> Result<Made, Memory>
-    requires events { AreEvents events.now }
+fn made_of<R: Threads + Sync>(rt: &R, alloc: Global, profiled: ProfiledRun) -> Result<Made, Memory>
     requires profile { IsEventProfile profiled.merged.content }
     requires run { length profiled.merged.content.runs ≡ 1 }
-    requires own { profiled.merged.content.events ≡ events.now }
-    requires counted { (m : Measured) × IsCount events.now m profiled.run }
-    ensures { (m : Measured) → IsCount events.now m profiled.entry.run
-        → IfOk result (λ made. IsMadeBy m profiled.entry.merged made) }
+    requires summary { (m : Measured) × IsSummaryOf m profiled.summary × (profiled.merged.content.events ≡ m.events) }
+    ensures { (m : Measured) → IsSummaryOf m profiled.summary → IfOk result (IsMadeBy m profiled.merged) }
 {
-    let ProfiledRun { run, merged } = profiled;
+    let ProfiledRun { summary, merged } = profiled;
     let Merged { content, crew } = merged;
-    let made = report_of(rt, alloc, events, run, content)?;
+    let made = report_of(rt, alloc, summary, content)?;
     let Product { stored, text } = made;
     Ok(Made {
         database: stored,
@@ -110,7 +99,7 @@ pub fn profile<R: Threads + Sync + AllocGlobal, C: Crews>(
     event_content_holds_its_paths();
     event_paths_are_paths();
     let profiled = profile_run(rt, rt.alloc(), job, crews)?;
-    Ok(made_of(rt, rt.alloc(), job.periods, profiled)?)
+    Ok(made_of(rt, rt.alloc(), profiled)?)
 }
 
 /// What was made, to be stored and put.

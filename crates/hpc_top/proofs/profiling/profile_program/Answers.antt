@@ -25,4 +25,4 @@ returns g c =
     let by = merging (g.C.Crews.gives c.args.crews.now) (g.C.Crews.whole c.args.crews.now) c.args.job.now.workers in
     let scopes : ProgramScopes = record { structure = c.args.structure.now; lines = c.args.lines; image = c.args.image.now } in
     let counted = c.in_ok-counted.ensures in
-    subst (λ (r : Result Profiled InputFault). Profiles by c.args.job.now.periods.now c.merge_scopes.result r) (sym (ap (λ (r : Result Measured InputFault). r >>= λ m. profiled scopes m) counted.1)) (c.merge_scopes.ensures counted.0 counted.2)
+    subst (λ (r : Result Profiled InputFault). Profiles by c.merge_scopes.result r) (sym (ap (λ (r : Result Measured InputFault). r >>= λ m. profiled scopes m) counted.1)) (c.merge_scopes.ensures counted.0 counted.2)

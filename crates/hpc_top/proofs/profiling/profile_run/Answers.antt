@@ -15,5 +15,5 @@ returns-in_err-read g c =
 pub returns : goal.returns
 returns g c =
     let by = merging (g.C.Crews.gives c.args.crews.now) (g.C.Crews.whole c.args.crews.now) c.args.job.now.workers in
-    subst (λ (r : Result Profiled InputFault). Profiles by c.args.job.now.periods.now c.profile_program.result r)
+    subst (λ (r : Result Profiled InputFault). Profiles by c.profile_program.result r)
     (sym (profiled_here c.args.job.now.input.now c.args.job.now.periods.now c.args.job.now.elf.now c.args.job.now.schedule.now (files_in c.in_ok-read.read) c.in_ok-read.ensures)) c.profile_program.ensures

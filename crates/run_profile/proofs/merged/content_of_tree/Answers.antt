@@ -1,7 +1,7 @@
-use Rattle.std.proofs.Common.{◌≡◌, ◌∙◌, ℕ, List, length, sym, ap, subst, arith}
+use Rattle.std.proofs.Common.{◌∙◌, ℕ, List, sym, ap, subst, arith}
 use Rattle.scope_find.specs.Found.{naming_of}
 use Rattle.scope_types.specs.CallPaths.{ColumnPath}
-use Rattle.scope_types.specs.Columns.{columns_of, period_of_column}
+use Rattle.scope_types.specs.Columns.{period_of_column}
 use Rattle.scope_types.specs.Events.{periods_of}
 use Rattle.tree_types.specs.declared.content.EventContent.{EventContent}
 use Rattle.tree_types.specs.NodeValues.{values_of}

@@ -8,4 +8,4 @@ returns-in_err-crew-clause-merged g c samples are own =
 
 pub returns-clause-merged : goal.returns-clause-merged
 returns-clause-merged g c samples are own =
-    c.in_ok-content.ensures.merged samples (c.in_ok-crew.ensures.merged samples are own)
+    c.in_ok-merged_by.ensures.merged samples (c.in_ok-crew.ensures.merged samples are own)

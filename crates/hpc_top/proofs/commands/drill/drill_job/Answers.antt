@@ -12,9 +12,6 @@ lines-requires-clause-profile g c = c.in_ok-profiled.ensures.2.profile
 pub lines-requires-clause-run : goal.lines-requires-clause-run
 lines-requires-clause-run g c = c.in_ok-profiled.ensures.2.run
 
-pub lines-requires-clause-counted : goal.lines-requires-clause-counted
-lines-requires-clause-counted g c = (c.args.job.now.periods.now, c.in_ok-profiled.ensures.0.measured, c.in_ok-profiled.ensures.2.count)
-
 pub returns-in_err-text : goal.returns-in_err-text
 returns-in_err-text g c =
     let p = err_from_is_err_and c.from_residual-in_err-text.result c.from_residual-in_err-text.ensures.1 in
@@ -22,6 +19,6 @@ returns-in_err-text g c =
 
 pub returns : goal.returns
 returns g c =
-    drilled_is (merging (g.C.Crews.gives c.args.crews.now) (g.C.Crews.whole c.args.crews.now) c.args.job.now.workers) c.event_content_holds_its_paths.ensures.alike c.counts_decide.ensures.table c.event_paths_are_paths.ensures.alike c.requires.whole c.args.number c.args.job.now.periods.now
+    drilled_is (merging (g.C.Crews.gives c.args.crews.now) (g.C.Crews.whole c.args.crews.now) c.args.job.now.workers) c.event_content_holds_its_paths.ensures.alike c.counts_decide.ensures.table c.event_paths_are_paths.ensures.alike c.requires.whole c.args.number
     (profiled_of c.args.job.now.elf.now c.args.job.now.input.now c.args.job.now.schedule.now c.args.job.now.periods.now) c.in_ok-profiled.profiled c.text_alone.result c.in_ok-profiled.ensures
-    (λ events m count. c.text_alone.ensures ∙ ap only_text (c.in_ok-text.ensures events m count))
+    (c.text_alone.ensures ∙ ap only_text c.in_ok-text.ensures)

@@ -10,11 +10,8 @@ made_of-requires-clause-profile g c κs within = c.in_ok-profiled.ensures.2.prof
 pub made_of-requires-clause-run : goal.made_of-requires-clause-run
 made_of-requires-clause-run g c κs within = c.in_ok-profiled.ensures.2.run
 
-pub made_of-requires-clause-own : goal.made_of-requires-clause-own
-made_of-requires-clause-own g c κs within = c.in_ok-profiled.ensures.2.own_events
-
-pub made_of-requires-clause-counted : goal.made_of-requires-clause-counted
-made_of-requires-clause-counted g c κs within = (c.in_ok-profiled.ensures.0.measured, c.in_ok-profiled.ensures.2.count)
+pub made_of-requires-clause-summary : goal.made_of-requires-clause-summary
+made_of-requires-clause-summary g c κs within = (c.in_ok-profiled.ensures.0.measured, c.in_ok-profiled.ensures.2.summary, c.in_ok-profiled.ensures.2.events)
 
 pub returns-in_err-profiled-clause-whole : goal.returns-in_err-profiled-clause-whole
 returns-in_err-profiled-clause-whole g c whole =
@@ -23,7 +20,7 @@ returns-in_err-profiled-clause-whole g c whole =
 
 pub returns-clause-merged : goal.returns-clause-merged
 returns-clause-merged g c =
-    makes (merging (g.C.Crews.gives c.args.crews.now) (g.C.Crews.whole c.args.crews.now) c.args.job.now.workers) c.event_content_holds_its_paths.ensures.alike c.counts_decide.ensures.table c.event_paths_are_paths.ensures.alike c.args.job.now.periods.now
+    makes (merging (g.C.Crews.gives c.args.crews.now) (g.C.Crews.whole c.args.crews.now) c.args.job.now.workers) c.event_content_holds_its_paths.ensures.alike c.counts_decide.ensures.table c.event_paths_are_paths.ensures.alike
     (profiled_of c.args.job.now.elf.now c.args.job.now.input.now c.args.job.now.schedule.now c.args.job.now.periods.now) c.in_ok-profiled.profiled c.in_ok-made_of.field-0 c.in_ok-profiled.ensures c.in_ok-made_of.ensures
 
 pub returns-clause-whole : goal.returns-clause-whole
