@@ -1,6 +1,8 @@
 //! The devices over a folder and over streams, which no contract can tie to what the system does.
 use crate::calls::{Call, other_answer};
-use prof_devices::{ErrSink, FolderShelf, OutSink, Put, Shelf, Sink};
+use prof_devices::{
+    ErrSink, FolderShelf, OutSink, Put, Shelf, Sink, SystemErr, SystemFolder, SystemOut,
+};
 use std::alloc::Global;
 use std::fmt::Display;
 use std::io::ErrorKind;
@@ -58,7 +60,9 @@ static PUTS: [(&[u8], &[u8], Put, Put); 5] = [
 fn other_put(alloc: Global) -> Option<usize> {
     for (index, (bytes, put, out, err)) in PUTS.iter().enumerate() {
         let awaits = Awaits { alloc, bytes };
-        if OutSink::of(&awaits).put(put) != *out || ErrSink::of(&awaits).put(put) != *err {
+        if OutSink::of(SystemOut::of(&awaits)).put(put) != *out
+            || ErrSink::of(SystemErr::of(&awaits)).put(put) != *err
+        {
             return Some(index);
         }
     }
@@ -68,8 +72,8 @@ fn other_put(alloc: Global) -> Option<usize> {
 #[test]
 fn streams_take_just_the_bytes(rt: HostRuntime) {
     assert_eq!(rt; other_put(rt.alloc()), None);
-    assert_eq!(rt; OutSink::of(&rt).put(b""), Put::Done);
-    assert_eq!(rt; ErrSink::of(&rt).put(b""), Put::Done);
+    assert_eq!(rt; OutSink::of(SystemOut::of(&rt)).put(b""), Put::Done);
+    assert_eq!(rt; ErrSink::of(SystemErr::of(&rt)).put(b""), Put::Done);
 }
 
 /// The index of the first call that is answered otherwise: a name that nobody has yet, files that are
@@ -109,7 +113,7 @@ fn files_of_a_folder(rt: HostRuntime) -> Result<(), Fail> {
     let number = process::id(rt.process());
     let name = format!(in rt.alloc(); "{}/prof_devices_{number}", folder.display())?;
     let below = format!(in rt.alloc(); "{name}/missing")?;
-    let mut shelf = FolderShelf::of(&rt);
+    let mut shelf = FolderShelf::of(rt.alloc(), SystemFolder::of(&rt));
     let other = other_with_file(&mut shelf, name.as_bytes());
     fs::remove_file(&rt, name.as_str())?;
     assert_eq!(rt; other, None);

@@ -1,16 +1,18 @@
 //! The program `hpc`: it hands its words, the current folder's files and its streams to the top call.
 //!
-//! It promises nothing of its own: what it prints and stores is what the top call's contract says, as
-//! far as folders and streams do what they say. The key that it hands over with them changes no answer. Below stand
-//! `hpc_top`, `prof_devices` and `hash_key`.
+//! It promises the exit status for what the top call answers. What it prints and stores is what the top call's contract
+//! says, as far as folders and streams do what they say. The key that it hands over with them changes no answer. Below
+//! lie `hpc_top`, `command_line`, `prof_devices` and `hash_key`.
 #![tactic(auto)]
 
-ghost use Rattle.std.specs.Prelude.{◌≤◌, IfOk, length};
+ghost use Rattle.std.specs.Prelude.{◌≡◌, ◌≤◌, IfOk, length};
+ghost use Rattle.std.specs.Process.{exit_status};
+ghost use Rattle.hpc_cli.specs.Exit.{exit_number};
 
 use hash_key::HashKey;
 use hpc_top::{Status, hpc_main, out_of_memory};
 use prof_bytes::{Memory, Text};
-use prof_devices::{ErrSink, FolderShelf, OpenGate, OutSink};
+use prof_devices::{ErrSink, FolderShelf, OpenGate, OutSink, SystemErr, SystemFolder, SystemOut};
 use std::env::FillError;
 use std::process::ExitCode;
 use std::random::RandomSource;
@@ -61,13 +63,13 @@ fn words_of<R: Env + AllocGlobal>(rt: &R) -> Result<Vec<Text>, Memory> {
 fn run<R: Threads + Sync + AllocGlobal + Files + Print + Eprint + Env + RandomSource>(
     rt: &R,
 ) -> Status {
-    let mut err = ErrSink::of(rt);
+    let mut err = ErrSink::of(SystemErr::of(rt));
     let words = match words_of(rt) {
         Ok(words) => words,
         Err(memory) => return out_of_memory(memory, &mut err),
     };
-    let mut shelf = FolderShelf::of(rt);
-    let mut out = OutSink::of(rt);
+    let mut shelf = FolderShelf::of(rt.alloc(), SystemFolder::of(rt));
+    let mut out = OutSink::of(SystemOut::of(rt));
     hpc_main(
         rt,
         HashKey::random(rt),
@@ -79,12 +81,19 @@ fn run<R: Threads + Sync + AllocGlobal + Files + Print + Eprint + Env + RandomSo
     )
 }
 
-fn main(rt: HostRuntime) -> ExitCode {
-    ExitCode::from(match run(&rt) {
+/// The exit status for what the top call answers.
+fn exit_code(status: Status) -> ExitCode
+    ensures { exit_status result ≡ exit_number status }
+{
+    ExitCode::from(match status {
         Status::Done => 0,
         Status::Usage => 2,
         Status::Input(_) => 3,
         Status::Device(_) => 4,
         Status::Memory(_) => 5,
     })
+}
+
+fn main(rt: HostRuntime) -> ExitCode {
+    exit_code(run(&rt))
 }

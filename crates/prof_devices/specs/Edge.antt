@@ -1,6 +1,6 @@
 -- The devices over a folder and over streams: nothing is known of what they hold, and a count rises in just the calls
 -- that answer a fault.
-use Rattle.std.specs.Prelude.{◌≡◌, ℕ, ◌<◌, ◌≤◌, List, length, take, Option, IfSome, Bool, true, false}
+use Rattle.std.specs.Prelude.{◌≡◌, ℕ, ◌<◌, ◌≤◌, ◌⊎◌, List, length, take, Option, Some, None, IfSome, Bool, true, false}
 use Rattle.std.specs.Io.KnownBytes.{Consumes, IsAtEnd}
 use Rattle.core.specs.Str.{IsUtf8}
 use Rattle.prof_devices.specs.declared.shelf.Fetch.{Fetch}
@@ -69,3 +69,28 @@ OnRead (fetches.Memory memory) Fact = Unit {0}
 -- at most so many bytes were taken, where they are known
 abbrev pub TakesAtMost : Option (List ℕ) → Option (List ℕ) → ℕ → Type 0
 TakesAtMost known left most = (bytes : List ℕ) × Consumes known left bytes × (length bytes ≤ most)
+
+-- ---- a folder's file, of which it is known what may be opened or stored under its name
+
+-- a file was opened, and it has been read: all that it had left, or more of it than the limit. A fault comes where
+-- nothing was opened, or where what was opened has failed. When memory runs out, no clause says
+abbrev pub ReadsOpened : {F : Type 0} → (Option F → Type 0) → (F → Option (List ℕ)) → (F → Bool) → ℕ → Fetch → Type 0
+ReadsOpened {F} opens left has_failed limit (fetches.Whole bytes) =
+    (file : F) × opens (Some file) × FetchesFrom (left file) limit (fetches.Whole bytes)
+ReadsOpened {F} opens left has_failed limit fetches.TooLong =
+    (file : F) × opens (Some file) × FetchesFrom (left file) limit fetches.TooLong
+ReadsOpened {F} opens left has_failed limit fetches.Fault =
+    opens None ⊎ ((file after : F) × opens (Some file) × (has_failed after ≡ true))
+ReadsOpened {F} opens left has_failed limit (fetches.Memory memory) = Unit {0}
+
+-- the answer is that of the folder's store, unless memory ran out
+abbrev pub StoresGiven : (Put → Type 0) → Put → Type 0
+StoresGiven stores Done = stores Done
+StoresGiven stores Fault = stores Fault
+StoresGiven stores (Memory memory) = Unit {0}
+
+-- whether all bytes were put is what the stream said of a put
+abbrev pub PutsGiven : (Bool → Type 0) → Put → Type 0
+PutsGiven puts Done = puts true
+PutsGiven puts Fault = puts false
+PutsGiven puts (Memory memory) = ⊥

@@ -20,14 +20,16 @@ mod sink;
 mod store;
 mod streams;
 mod sure;
+mod system;
 
 pub use folder::FolderShelf;
 pub use gate::{Gate, OpenGate};
 pub use logs::ShelfCall;
 pub use memory_shelf::MemShelf;
 pub use memory_sink::MemSink;
-pub use read::{Source, fetch_from};
+pub use read::{ReadSource, Source, fetch_from};
 pub use shelf::{Fetch, Put, Shelf};
 pub use sink::Sink;
 pub use streams::{ErrSink, OutSink};
 pub use sure::{SureShelf, SureSink};
+pub use system::{Folder, Printer, SystemErr, SystemFolder, SystemOut};

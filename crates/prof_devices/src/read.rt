@@ -31,7 +31,7 @@ pub trait Source {
 
 /// A reader as a source: a read that was interrupted is tried again, and any other error is a failure.
 #[derive(Drop)]
-pub(crate) struct ReadSource<R> {
+pub struct ReadSource<R> {
     reader: R,
     failed: bool,
 }
