@@ -62,6 +62,7 @@ fn items_of(alloc: Global, word: &[u8]) -> Result<Vec<&[u8]>, Memory>
     ensures items { IfOk result (λ items. map (λ item. item.now) items.items ≡ items_of word.now) }
     ensures some { IfOk result (λ items. 1 ≤ length items.items) }
 {
+    // list: the items of one word of the command line
     Ok(word.split(|byte| *byte == b',').collect(alloc)?)
 }
 

@@ -30,6 +30,7 @@ fn info_of<'a>(alloc: Global, image: &Image<'a>) -> Result<Info<'a>, Fail<InputF
 fn tables_named(alloc: Global, units: &[Unit]) -> Result<Vec<u32>, Memory>
     ensures { IfOk result (λ offsets. offsets.items ≡ filter_map (λ u. u.table) units.now) }
 {
+    // list: at most one offset for each unit
     let offsets = units.iter().filter_map(|unit| unit.table).collect(alloc)?;
     Ok(offsets)
 }

@@ -43,6 +43,7 @@ impl FoundCache {
         ensures { IfOk result (λ cache. cache.kept.items ≡ []) }
     {
         Ok(FoundCache {
+            // room: `MOST_KEPT`, a number for each place
             numbers: Vec::from_elem(alloc, 0, MOST_KEPT)?,
             kept: Vec::new(alloc),
         })
