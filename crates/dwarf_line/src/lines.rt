@@ -287,7 +287,7 @@ fn read_tables<'a, 'o>(
 
 /// The tables at these offsets, their sequences that count, and the offsets of other tables. No table is kept where the
 /// programs of all together have more bytes than `.debug_line`, so that the rows that are found at once, of one table at
-/// a time, lie beside no others. It takes no clause which tables are kept.
+/// a time, lie beside no others. No clause says which tables are kept.
 fn read_kept<'a, 'o>(
     alloc: Global,
     line: &'a [u8],

@@ -33,6 +33,7 @@ pub(crate) fn loads(alloc: Global, file: &[u8]) -> Result<Vec<ProgramHeader>, Me
     ensures { IfOk result (λ headers. headers.items ≡ load_headers file.now) }
 {
     let headers = program_headers(alloc, file)?;
+    // list: at most as many as the file has headers
     let loads = headers.iter().copied().filter(is_load).collect(alloc)?;
     Ok(loads)
 }

@@ -1,11 +1,11 @@
 -- Lists that are filtered, and items beside their numbers.
-use Rattle.std.proofs.Common.{◌≡◌, ℕ, ◌+◌, ◌<◌, ◌≤◌, Bool, true, false, cond, List, [], ◌∷◌, ◌++◌, length, get_or, Some, refl, sym, ap, ◌∙◌, subst, arith}
+use Rattle.std.proofs.Common.{◌≡◌, ℕ, ◌+◌, ◌<◌, Bool, true, false, cond, List, [], ◌∷◌, ◌++◌, length, get_or, Some, refl, sym, ap, ◌∙◌, subst, arith}
 use Rattle.std.specs.Prelude.{filter, slice_get}
 use Rattle.std.specs.List.{flat_map}
 use Rattle.std.proofs.lemmas.List.FromFn.{length-enumerate_from, get_or-enumerate_from}
 use Rattle.std.proofs.lemmas.Option.{slice_get_within, get_or_from_slice_get}
 use Rattle.dwarf_inline.specs.declared.subroutine.Subroutine.{Subroutine}
-use Rattle.dwarf_inline.specs.Structure.{ProgramStructure, IsWholeStructure}
+use Rattle.dwarf_inline.specs.Structure.{ProgramStructure}
 use Rattle.scope_find.specs.Found.{Numbered, numbered}
 
 -- what a filter leaves gives, each of the others gives nothing
@@ -26,8 +26,3 @@ numbered_at s number item d there =
     let lt : number < length s.items = slice_get_within s.items number item there in
     let e : 0 + number ≡ number = omega arith in
     get_or-enumerate_from 0 s.items number d lt ∙ (λ j. (e j, get_or_from_slice_get s.items number item d.1 there j))
-
--- an item's ranges are there
-pub item_placed : (s : ProgramStructure) (number : ℕ) (item : Subroutine) → IsWholeStructure s → slice_get s.items number ≡ Some item → item.first_range + item.range_count ≤ length s.ranges
-item_placed s number item whole there =
-    subst (λ (i : Subroutine). i.first_range + i.range_count ≤ length s.ranges) (get_or_from_slice_get s.items number item item there) (whole.placed number item (slice_get_within s.items number item there))

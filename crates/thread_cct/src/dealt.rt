@@ -82,6 +82,7 @@ fn numbered(alloc: Global, chunk: u32, lists: Vec<StripeEntries>) -> Result<Vec<
     let pieces = (0..STRIPES as u32)
         .zip(lists)
         .map(|(stripe, list)| list.into_piece(chunk, stripe))
+        // list: a piece for each stripe
         .collect(alloc)?;
     Ok(pieces)
 }
