@@ -1,5 +1,5 @@
 -- Where walks over tries begin and where they end.
-use Rattle.std.proofs.Common.{◌≡◌, ℕ, suc, ◌+◌, ◌<◌, ◌≤◌, ◌≢◌, inl, inr, true, List, [], ◌∷◌, ◌++◌, length, get_or, map, replicate, ◌-◌, None, All, AllPairs, Contains, Less, refl, sym, ap, ap₂, subst, ◌∙◌, arith, append_assoc, length-append}
+use Rattle.std.proofs.Common.{◌≡◌, ℕ, suc, ◌+◌, ◌<◌, ◌≤◌, ◌≢◌, inl, inr, true, List, [], ◌∷◌, ◌++◌, length, get_or, map, replicate, ◌-◌, None, All, AllPairs, Contains, Less, refl, sym, ap, subst, ◌∙◌, arith, append_assoc, length-append}
 use Rattle.std.specs.List.{flat_map}
 use Rattle.std.specs.List.Sorted.{IsStrictlySortedBy}
 use Rattle.std.proofs.Math.ListN.{get_or-append}
@@ -30,7 +30,7 @@ use Rattle.path_trie.proofs.Nodes.{each_prefix, no_other, each_once}
 use Rattle.path_trie.proofs.Places.{path_none, not_empty, has_at}
 use Rattle.tree_join.specs.declared.children.Children.{Children}
 use Rattle.tree_join.specs.declared.walker.Walker.{Walker}
-use Rattle.tree_join.specs.private.Children.{Groups, AreChildren, children_of}
+use Rattle.tree_join.specs.private.Children.{Chained, AreChildren, SortedChildren}
 use Rattle.tree_join.specs.private.Walk.{number_given, path_or_none, nodes_in, walked_entries, head_node, AreNodes, IsBelow, IsReady, IsWalker, Walking, Walks, WalksTrie}
 use Rattle.tree_join.proofs.Groups.{children_are}
 use Rattle.tree_join.proofs.Parting.{parts_same, siblings_part}
@@ -102,21 +102,21 @@ module _ (nodes : List Node) (are : AreNodes nodes) (kids : List ℕ) (children 
   }
 
 module _ (children : Children) (nodes : List Node) (es : List Entry) (ends : List PathEnd) (numbers stack none : List ℕ) (same : children.nodes.now ≡ nodes)
-    (groups : Groups nodes children.flags.items children.siblings.items) (paths_are : tree_paths nodes ≡ trie_nodes es) (before : StandBefore nodes) (few : length nodes ≤ most_scopes_in_all)
+    (chained : Chained nodes children.lasts.items children.previous.items) (paths_are : tree_paths nodes ≡ trie_nodes es) (before : StandBefore nodes) (few : length nodes ≤ most_scopes_in_all)
     (ends_are : map (counted_entry (trie_nodes es)) ends ≡ es) (ends_in : All (λ e. IsIndex e.node (length (trie_nodes es))) ends) where
   pub entries_are : map (counted_entry (tree_paths children.nodes.now)) ends ≡ es
   entries_are = ap (λ (ns : List Node). map (counted_entry (tree_paths ns)) ends) same ∙ ap (λ (ps : List Path). map (counted_entry ps) ends) paths_are ∙ ends_are
 
-  pub start_at : numbers ≡ replicate (length nodes) no_parent → none ≡ [] → stack ≡ none ++ children_of children.nodes.now children.flags.items children.siblings.items no_parent → WalksTrie children ends numbers stack []
-  start_at numbers_are none_is stack_is =
+  pub start_at : numbers ≡ replicate (length nodes) no_parent → none ≡ [] → (kids : List ℕ) → SortedChildren children.nodes.now no_parent kids → stack ≡ none ++ kids → WalksTrie children ends numbers stack []
+  start_at numbers_are none_is kids found stack_is =
       let are : AreNodes nodes = nodes_of_trie nodes es paths_are before few in
-      let kids : List ℕ = children_of nodes children.flags.items children.siblings.items no_parent in
-      let stack_all : stack ≡ kids = stack_is ∙ ap₂ (λ (a : List ℕ) (n : List Node). a ++ children_of n children.flags.items children.siblings.items no_parent) none_is same in
-      let begun = start nodes are kids (children_are nodes children.flags.items children.siblings.items groups are no_parent (λ inner. absurd (inner refl))) in
+      let stack_all : stack ≡ kids = stack_is ∙ ap (λ (a : List ℕ). a ++ kids) none_is in
+      let here : SortedChildren nodes no_parent kids = subst (λ (ns : List Node). SortedChildren ns no_parent kids) same found in
+      let begun = start nodes are kids (children_are nodes are no_parent (λ inner. absurd (inner refl)) kids here) in
       let walk : Walks nodes numbers stack [] = subst (λ (x : List ℕ). Walks nodes x stack []) (sym numbers_are) (subst (λ (x : List ℕ). Walks nodes (replicate (length nodes) no_parent) x []) (sym stack_all) begun) in
       let long : length (trie_nodes es) ≡ length nodes = sym (ap (λ (ps : List Path). length ps) paths_are) ∙ as_many_paths nodes in
       record {
-        groups = subst (λ (ns : List Node). Groups ns children.flags.items children.siblings.items) (sym same) groups;
+        chained = subst (λ (ns : List Node). Chained ns children.lasts.items children.previous.items) (sym same) chained;
         are = subst AreNodes (sym same) are;
         nodes_are = ap tree_paths same ∙ paths_are ∙ ap trie_nodes (sym entries_are);
         ends_in = subst (λ (ns : List Node). All (λ e. IsIndex e.node (length ns)) ends) (sym same) (subst (λ (k : ℕ). All (λ e. IsIndex e.node k) ends) long ends_in);
@@ -125,7 +125,7 @@ module _ (children : Children) (nodes : List Node) (es : List Entry) (ends : Lis
 
 pub ready : (order : List Node) (w : Walker) → IsWalker order w → IsReady w
 ready order w is = record {
-  groups = is.groups;
+  chained = is.chained;
   few = is.are.few;
   long = is.walks.long;
   indices = λ i d lt. subst (λ (p : ℕ). p < length (nodes_in w)) (get_or_default w.stack.items i 0 d lt) (is.walks.indices i lt);

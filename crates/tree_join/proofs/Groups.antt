@@ -1,38 +1,39 @@
 -- Siblings in order, and the children of a node among them.
-use Rattle.std.proofs.Common.{◌≡◌, ℕ, zero, suc, ◌+◌, ◌-◌, ◌<◌, ◌≤◌, ◌==◌, ◌&&◌, nat_lt, inl, inr, Bool, true, false, cond, List, [], ◌∷◌, ◌++◌, length, get_or, take, drop, map, filter, reverse, ltb, leb, All, AllPairs, Contains, Less, Equal, Greater, Ordering, refl, sym, ap, ap₂, subst, ◌∙◌, arith, true≢false, append-nil, take_all, length-drop}
+use Rattle.std.proofs.Common.{◌≡◌, ℕ, zero, suc, ◌+◌, ◌-◌, ◌<◌, ◌≤◌, ◌==◌, nat_lt, inl, inr, Bool, true, false, cond, List, [], ◌∷◌, ◌++◌, length, get_or, set, map, reverse, All, AllPairs, Contains, Less, Equal, Greater, Ordering, Result, Ok, Err, OnOk, refl, sym, ap, ap₂, subst, ◌∙◌, arith, true≢false}
 use Rattle.std.specs.Cmp.{IsTotalOrder}
 use Rattle.std.specs.List.{IsDistinct}
-use Rattle.std.specs.List.Sorted.{IsSorted, IsPermutation, IsPartitionPoint, IsNonDecreasingBy}
+use Rattle.std.specs.List.Sorted.{IsSorted, IsPermutation}
 use Rattle.std.specs.Ordering.{nat_cmp, is_lt, ordering_then, ordering_reverse}
-use Rattle.std.proofs.lemmas.Bool.{cases_eq, cases_lt, eq-eqb, ne_eqb, ltb-true, leb-true, lt-ltb, le-ltb, ltb-false, leb-false}
+use Rattle.std.proofs.lemmas.Bool.{cases_eq, cases_lt, eq-eqb, ne_eqb, le-ltb}
 use Rattle.std.proofs.lemmas.Bool.Decides.{eqb_tells}
 use Rattle.std.proofs.lemmas.Cmp.{then_total, nat_cmp_total}
 use Rattle.std.specs.Cmp.{on_total}
-use Rattle.std.proofs.lemmas.List.{length-take-le, get_or-map, get_or-take, get_or-drop, length-map, length-reverse, get_or-reverse, take-append-drop}
-use Rattle.std.proofs.lemmas.List.Elements.{All-nil, All-cons, All-head, All-tail, All-push, All-get_or, All-weaker, Contains-append_left, Contains-push, filter-append}
-use Rattle.std.proofs.lemmas.List.Kept.{AllPairs-filter}
+use Rattle.std.proofs.lemmas.List.{append_assoc, get_or-map, get_or_default, get_or-set_same, get_or-set_other, length-map, length-set, length-reverse, get_or-reverse}
+use Rattle.std.proofs.lemmas.List.Elements.{All-nil, All-cons, All-head, All-get_or, All-weaker}
+use Rattle.std.proofs.lemmas.List.Kept.{AllPairs-cons}
 use Rattle.std.proofs.lemmas.List.MinMax.{ranks_by}
-use Rattle.std.proofs.lemmas.List.Quantifiers.{all_pairs_push}
-use Rattle.std.proofs.lemmas.List.Sorted.{sorted_far, IsNonDecreasingBy-take, IsNonDecreasingBy-drop, Contains-permutation, All-permutation, IsPermutation-reverse}
+use Rattle.std.proofs.lemmas.List.Sorted.{sorted_far, Contains-permutation, All-permutation, IsPermutation-refl, IsPermutation-reverse}
+use Rattle.std.proofs.lemmas.Option.{slice_get-get_or}
 use Rattle.std.proofs.lemmas.Map.Keys.{IsDistinct-from_apart, IsDistinct-IsPermutation, apart_from_distinct}
 use Rattle.scope_types.specs.declared.scope.Scope.{Scope}
 use Rattle.scope_types.specs.Limits.{most_scopes_in_all}
 use Rattle.scope_types.specs.Order.{scope_order}
 use Rattle.scope_types.proofs.Orders.{scope_order_total, scope_order_tells}
 use Rattle.tree_types.specs.declared.content.Node.{Node}
+use Rattle.tree_types.specs.Nodes.{no_parent}
 use Rattle.tree_types.specs.PathsOf.{tree_paths}
-use Rattle.path_trie.specs.Trie.{IsIndex, path_at}
-use Rattle.path_trie.specs.private.Linked.{linked_node, next_index}
+use Rattle.path_trie.specs.Trie.{IsIndex, StandBefore, path_at}
+use Rattle.path_trie.specs.private.Linked.{linked_node, next_index, no_node}
 use Rattle.path_trie.proofs.Places.{place_cases, next_of}
 use Rattle.tree_join.specs.declared.children.Sibling.{Sibling}
-use Rattle.tree_join.specs.private.Children.{slot_at, flag_at, sibling_at, siblings_below, sibling_order, MarksBranches, Groups, AreChildren, group_at, indices_down, run_child, children_of}
+use Rattle.tree_join.specs.private.Children.{slot_at, sibling_at, siblings_below, siblings_from, first_index, sibling_order, Chains, Chained, SortedChildren, AreChildren, indices_down}
 use Rattle.tree_join.specs.private.Walk.{path_or_none, AreNodes}
 use Rattle.tree_join.proofs.Walking.{kid_path}
 
 -- ---- the order of siblings
 
 sibling_order_total : IsTotalOrder sibling_order
-sibling_order_total = then_total (on_total (λ (s : Sibling). s.slot) nat_cmp_total) (then_total (on_total (λ (s : Sibling). s.scope) scope_order_total) (on_total (λ (s : Sibling). s.index) nat_cmp_total))
+sibling_order_total = then_total (on_total (λ (s : Sibling). s.scope) scope_order_total) (on_total (λ (s : Sibling). s.index) nat_cmp_total)
 
 pub nat_equal : (a b : ℕ) → nat_cmp a b ≡ Equal → a ≡ b
 nat_equal a b e =
@@ -53,101 +54,220 @@ second_equal Equal b e = e
 second_equal Greater b e = absurd cc
 
 tied_place : (a b : Sibling) → sibling_order a b ≡ Equal → a.index ≡ b.index
-tied_place a b e = nat_equal a.index b.index (second_equal (scope_order a.scope b.scope) (nat_cmp a.index b.index) (second_equal (nat_cmp a.slot b.slot) (ordering_then (scope_order a.scope b.scope) (nat_cmp a.index b.index)) e))
+tied_place a b e = nat_equal a.index b.index (second_equal (scope_order a.scope b.scope) (nat_cmp a.index b.index) e)
 
 -- ---- the siblings below an index
 
 abbrev same_index : Sibling → Sibling → Bool
 same_index a b = a.index == b.index
 
-abbrev IsOne : List Node → Sibling → Type 0
-IsOne nodes s = (s.index < length nodes) × (s ≡ sibling_at nodes s.index)
+same_slot : (a b : ℕ) → (a == b) ≡ true → a ≡ b
+same_slot a b e = elim (eqb_tells a b) as (λ _. a ≡ b) [ inl is ↦ is.1 | inr apart ↦ absurd (true≢false (sym e ∙ apart.0)) ]
 
-module _ (nodes : List Node) (flags : List Bool) where
-  below_has : (k i : ℕ) → i < k → flag_at flags (slot_at nodes i) ≡ true → Contains (siblings_below nodes flags k) (sibling_at nodes i)
-  below_has zero i lt on = absurd (omega arith)
-  below_has (suc k) i lt on =
-      elim (cases_lt i k) [
-        | inl less ↦ elim (flag_at flags (slot_at nodes k)) as (λ b. Contains (cond b (siblings_below nodes flags k ++ sibling_at nodes k ∷ []) (siblings_below nodes flags k)) (sibling_at nodes i)) [
-          | true ↦ Contains-append_left (siblings_below nodes flags k) (sibling_at nodes k ∷ []) (sibling_at nodes i) (below_has k i less on)
-          | false ↦ below_has k i less on
-        ]
-        | inr le ↦
-            let is : i ≡ k = omega arith in
-            subst (λ (b : Bool). Contains (cond b (siblings_below nodes flags k ++ sibling_at nodes k ∷ []) (siblings_below nodes flags k)) (sibling_at nodes i))
-            (sym (subst (λ (j : ℕ). flag_at flags (slot_at nodes j) ≡ true) is on))
-            (subst (λ (j : ℕ). Contains (siblings_below nodes flags k ++ sibling_at nodes k ∷ []) (sibling_at nodes j)) (sym is) (Contains-push (siblings_below nodes flags k) (sibling_at nodes k)))
-      ]
+flips : (a b : Sibling) → same_index a b ≡ same_index b a
+flips a b = elim (cases_eq a.index b.index) [ inl is ↦ eq-eqb a.index b.index is ∙ sym (eq-eqb b.index a.index (sym is)) | inr apart ↦ ne_eqb a.index b.index apart ∙ sym (ne_eqb b.index a.index (λ e. apart (sym e))) ]
 
-  abbrev IsLow : ℕ → Sibling → Type 0
-  IsLow k s = (s.index < k) × (s ≡ sibling_at nodes s.index)
-
-  below_only : (k : ℕ) → All (IsLow k) (siblings_below nodes flags k)
-  below_only zero = All-nil (IsLow 0)
-  below_only (suc k) =
-      let rest = All-weaker (IsLow k) (IsLow (suc k)) (λ s low. ((let lt = low.0 in omega arith), low.1)) (siblings_below nodes flags k) (below_only k) in
-      elim (flag_at flags (slot_at nodes k)) as (λ b. All (IsLow (suc k)) (cond b (siblings_below nodes flags k ++ sibling_at nodes k ∷ []) (siblings_below nodes flags k))) [
-        | true ↦ All-push (IsLow (suc k)) (siblings_below nodes flags k) (sibling_at nodes k) rest (omega arith, refl)
-        | false ↦ rest
-      ]
-
-  below_up : (k : ℕ) → AllPairs (λ a b. a.index < b.index) (siblings_below nodes flags k)
-  below_up zero = λ i j d below lt. absurd (omega arith)
-  below_up (suc k) =
-      elim (flag_at flags (slot_at nodes k)) as (λ b. AllPairs (λ a b. a.index < b.index) (cond b (siblings_below nodes flags k ++ sibling_at nodes k ∷ []) (siblings_below nodes flags k))) [
-        | true ↦ all_pairs_push (λ a b. a.index < b.index) (siblings_below nodes flags k) (sibling_at nodes k) (below_up k) (λ j d lt. (All-get_or (IsLow k) (siblings_below nodes flags k) j d lt (below_only k)).0)
-        | false ↦ below_up k
-      ]
-
-  below_distinct : (k : ℕ) → IsDistinct same_index (siblings_below nodes flags k)
-  below_distinct k = IsDistinct-from_apart same_index (siblings_below nodes flags k) (λ i j d below lt. ne_eqb (get_or (siblings_below nodes flags k) i d).index (get_or (siblings_below nodes flags k) j d).index (λ e. (let less = below_up k i j d below lt in absurd (omega arith))))
-
-  flips : (a b : Sibling) → same_index a b ≡ same_index b a
-  flips a b = elim (cases_eq a.index b.index) [ inl is ↦ eq-eqb a.index b.index is ∙ sym (eq-eqb b.index a.index (sym is)) | inr apart ↦ ne_eqb a.index b.index apart ∙ sym (ne_eqb b.index a.index (λ e. apart (sym e))) ]
-
-  sorted_up : (xs : List Sibling) → IsSorted sibling_order xs → IsDistinct same_index xs → AllPairs (λ a b. sibling_order a b ≡ Less) xs
-  sorted_up xs up distinct i j d below lt =
-      let a : Sibling = get_or xs i d in
-      let b : Sibling = get_or xs j d in
-      let not_less : is_lt (sibling_order b a) ≡ false = sorted_far (λ x y. is_lt (sibling_order x y)) (ranks_by sibling_order_total (λ (s : Sibling). s)) xs up i j d (omega arith) lt in
-      let apart : same_index a b ≡ false = apart_from_distinct same_index xs i j d distinct below lt in
-      elim (sibling_order a b) as (λ o. sibling_order a b ≡ o → o ≡ Less) [
-        | Less ↦ λ e. refl
-        | Equal ↦ λ e. (let two : true ≡ false = sym (eq-eqb a.index b.index (tied_place a b e)) ∙ apart in absurd (true≢false two))
-        | Greater ↦ λ e. (let less : sibling_order b a ≡ Less = sibling_order_total.antisymm b a ∙ ap ordering_reverse e in absurd (true≢false (sym (ap is_lt less) ∙ not_less)))
-      ] refl
-
-  pub sorted_groups : (old new : List Sibling) → length flags ≡ length nodes + 1 → MarksBranches nodes flags → old ≡ siblings_below nodes flags (length nodes) → IsPermutation old new → IsSorted sibling_order new → Groups nodes flags new
-  sorted_groups old new long marks is moved up =
-      let n : ℕ = length nodes in
-      record {
-        long = long;
-        marks = marks;
-        ascend = sorted_up new up (IsDistinct-IsPermutation same_index flips old new moved (subst (IsDistinct same_index) (sym is) (below_distinct n)));
-        all = λ i lt on. Contains-permutation old new (sibling_at nodes i) moved (subst (λ (l : List Sibling). Contains l (sibling_at nodes i)) (sym is) (below_has n i lt on));
-        only = All-permutation (IsOne nodes) old new moved (subst (All (IsOne nodes)) (sym is) (below_only n));
-      }
-
--- ---- lists
-
-filter_passes : (P : Sibling → Type 0) (t : Sibling → Bool) (xs : List Sibling) → All P xs → All (λ x. P x × (t x ≡ true)) (filter t xs)
-filter_passes P t [] all = All-nil (λ x. P x × (t x ≡ true))
-filter_passes P t (x ∷ xs) all =
-    let rest = filter_passes P t xs (All-tail P x xs all) in
-    elim (t x) as (λ b. t x ≡ b → All (λ x. P x × (t x ≡ true)) (cond b (x ∷ filter t xs) (filter t xs))) [
-      | true ↦ λ e. All-cons (λ x. P x × (t x ≡ true)) x (filter t xs) (All-head P x xs all, e) rest
-      | false ↦ λ e. rest
+sorted_up : (xs : List Sibling) → IsSorted sibling_order xs → IsDistinct same_index xs → AllPairs (λ a b. sibling_order a b ≡ Less) xs
+sorted_up xs up distinct i j d below lt =
+    let a : Sibling = get_or xs i d in
+    let b : Sibling = get_or xs j d in
+    let not_less : is_lt (sibling_order b a) ≡ false = sorted_far (λ x y. is_lt (sibling_order x y)) (ranks_by sibling_order_total (λ (s : Sibling). s)) xs up i j d (omega arith) lt in
+    let apart : same_index a b ≡ false = apart_from_distinct same_index xs i j d distinct below lt in
+    elim (sibling_order a b) as (λ o. sibling_order a b ≡ o → o ≡ Less) [
+      | Less ↦ λ e. refl
+      | Equal ↦ λ e. (let two : true ≡ false = sym (eq-eqb a.index b.index (tied_place a b e)) ∙ apart in absurd (true≢false two))
+      | Greater ↦ λ e. (let less : sibling_order b a ≡ Less = sibling_order_total.antisymm b a ∙ ap ordering_reverse e in absurd (true≢false (sym (ap is_lt less) ∙ not_less)))
     ] refl
 
-filter_at : (t : Sibling → Bool) (xs : List Sibling) (x : Sibling) (k : ℕ) → k < length xs → get_or xs k x ≡ x → t x ≡ true → Contains (filter t xs) x
-filter_at t [] x k lt is passes = absurd (omega arith)
-filter_at t (y ∷ ys) x zero lt is passes = subst (λ (b : Bool). Contains (cond b (y ∷ filter t ys) (filter t ys)) x) (sym (ap t is ∙ passes)) (0, omega arith, is)
-filter_at t (y ∷ ys) x (suc k) lt is passes =
-    let rest = filter_at t ys x k (omega arith) is passes in
-    elim (t y) as (λ b. Contains (cond b (y ∷ filter t ys) (filter t ys)) x) [ true ↦ (suc rest.0, (let lt = rest.1 in omega arith), rest.2) | false ↦ rest ]
+module _ (nodes : List Node) where
+  abbrev next : ℕ → ℕ → List Sibling
+  next slot k = sibling_at nodes k ∷ siblings_below nodes slot k
 
-filter_has : (t : Sibling → Bool) (xs : List Sibling) (x : Sibling) → Contains xs x → t x ≡ true → Contains (filter t xs) x
-filter_has t xs x has passes = filter_at t xs x has.0 has.1 has.2 passes
+  below_on : (slot k : ℕ) → slot_at nodes k ≡ slot → siblings_below nodes slot (suc k) ≡ next slot k
+  below_on slot k is = ap (λ b. cond b (next slot k) (siblings_below nodes slot k)) (eq-eqb (slot_at nodes k) slot is)
+
+  below_off : (slot k : ℕ) → (slot_at nodes k ≡ slot → ⊥) → siblings_below nodes slot (suc k) ≡ siblings_below nodes slot k
+  below_off slot k apart = ap (λ b. cond b (next slot k) (siblings_below nodes slot k)) (ne_eqb (slot_at nodes k) slot apart)
+
+  below_has : (slot k i : ℕ) → i < k → slot_at nodes i ≡ slot → Contains (siblings_below nodes slot k) (sibling_at nodes i)
+  below_has slot zero i lt on = absurd (omega arith)
+  below_has slot (suc k) i lt on =
+      elim (cases_lt i k) [
+        | inl less ↦
+            let rest = below_has slot k i less on in
+            elim (slot_at nodes k == slot) as (λ b. Contains (cond b (next slot k) (siblings_below nodes slot k)) (sibling_at nodes i)) [
+              | true ↦ (suc rest.0, (let lt = rest.1 in omega arith), rest.2)
+              | false ↦ rest
+            ]
+        | inr le ↦
+            let is : k ≡ i = omega arith in
+            subst (λ (xs : List Sibling). Contains xs (sibling_at nodes i)) (sym (below_on slot k (ap (slot_at nodes) is ∙ on))) (0, omega arith, ap (sibling_at nodes) is)
+      ]
+
+  abbrev pub IsLow : ℕ → ℕ → Sibling → Type 0
+  IsLow slot k s = (s.index < k) × ((slot_at nodes s.index ≡ slot) × (s ≡ sibling_at nodes s.index))
+
+  below_only : (slot k : ℕ) → All (IsLow slot k) (siblings_below nodes slot k)
+  below_only slot zero = All-nil (IsLow slot 0)
+  below_only slot (suc k) =
+      let rest = All-weaker (IsLow slot k) (IsLow slot (suc k)) (λ s low. ((let lt = low.0 in omega arith), low.1)) (siblings_below nodes slot k) (below_only slot k) in
+      elim (slot_at nodes k == slot) as (λ b. (slot_at nodes k == slot) ≡ b → All (IsLow slot (suc k)) (cond b (next slot k) (siblings_below nodes slot k))) [
+        | true ↦ λ e. All-cons (IsLow slot (suc k)) (sibling_at nodes k) (siblings_below nodes slot k) (omega arith, (same_slot (slot_at nodes k) slot e, refl)) rest
+        | false ↦ λ e. rest
+      ] refl
+
+  below_down : (slot k : ℕ) → AllPairs (λ a b. b.index < a.index) (siblings_below nodes slot k)
+  below_down slot zero = λ i j d below lt. absurd (omega arith)
+  below_down slot (suc k) =
+      elim (slot_at nodes k == slot) as (λ b. AllPairs (λ a b. b.index < a.index) (cond b (next slot k) (siblings_below nodes slot k))) [
+        | true ↦ AllPairs-cons (λ a b. b.index < a.index) (sibling_at nodes k) (siblings_below nodes slot k) (All-weaker (IsLow slot k) (λ s. s.index < k) (λ s low. low.0) (siblings_below nodes slot k) (below_only slot k)) (below_down slot k)
+        | false ↦ below_down slot k
+      ]
+
+  below_distinct : (slot k : ℕ) → IsDistinct same_index (siblings_below nodes slot k)
+  below_distinct slot k =
+      let xs : List Sibling = siblings_below nodes slot k in
+      IsDistinct-from_apart same_index xs (λ i j d below lt. ne_eqb (get_or xs i d).index (get_or xs j d).index (λ e. (let less = below_down slot k i j d below lt in absurd (omega arith))))
+
+  -- ---- lists of siblings, from node to node
+
+  pub from_first : (slot k : ℕ) → k ≤ most_scopes_in_all → siblings_below nodes slot k ≡ siblings_from nodes (first_index (siblings_below nodes slot k))
+  from_first slot zero few = refl
+  from_first slot (suc k) few =
+      elim (cases_eq (slot_at nodes k) slot) [
+        | inl is ↦
+            let here = below_on slot k is in
+            let from : siblings_from nodes k ≡ next slot k = ap (λ b. cond b [] (next (slot_at nodes k) k)) (ne_eqb k no_parent (λ e. absurd (omega arith))) ∙ ap (λ (s : ℕ). next s k) is in
+            here ∙ sym from ∙ ap (λ (xs : List Sibling). siblings_from nodes (first_index xs)) (sym here)
+        | inr apart ↦
+            let off = below_off slot k apart in
+            off ∙ from_first slot k (omega arith) ∙ ap (λ (xs : List Sibling). siblings_from nodes (first_index xs)) (sym off)
+      ]
+
+  pub first_in : (slot k : ℕ) → IsIndex (first_index (siblings_below nodes slot k)) k
+  first_in slot k = by_list (siblings_below nodes slot k) (below_only slot k)
+    where
+      by_list : (xs : List Sibling) → All (IsLow slot k) xs → IsIndex (first_index xs) k
+      by_list [] all none = absurd (none refl)
+      by_list (x ∷ xs) all some = (All-head (IsLow slot k) x xs all).0
+
+  module _ (lasts previous : List ℕ) (k : ℕ) (chains : Chains nodes lasts previous k) where
+    -- one more node
+    pub chains_step : k < length nodes → slot_at nodes k ≤ length nodes
+        → Chains nodes (set lasts (slot_at nodes k) k) (set previous k (get_or lasts (slot_at nodes k) no_parent)) (suc k)
+    chains_step lt le =
+        let own : ℕ = slot_at nodes k in
+        let value : ℕ = get_or lasts own no_parent in
+        record {
+          slots = length-set lasts own k ∙ chains.slots;
+          long = length-set previous k value ∙ chains.long;
+          last = λ slot slot_le. elim (cases_eq own slot) [
+            | inl is ↦ ap (λ (s : ℕ). get_or (set lasts own k) s no_parent) (sym is) ∙ get_or-set_same lasts own k no_parent (let many = chains.slots in omega arith) ∙ sym (ap first_index (below_on slot k is))
+            | inr apart ↦ get_or-set_other lasts own slot k no_parent (λ e. apart (sym e)) ∙ chains.last slot slot_le ∙ sym (ap first_index (below_off slot k apart))
+          ];
+          before = λ i i_lt. elim (cases_lt i k) [
+            | inl less ↦ get_or-set_other previous k i value no_parent (λ e. absurd (omega arith)) ∙ chains.before i less
+            | inr at ↦
+                let is : k ≡ i = omega arith in
+                subst (λ (j : ℕ). get_or (set previous k value) j no_parent ≡ first_index (siblings_below nodes (slot_at nodes j) j)) is
+                (get_or-set_same previous k value no_parent (let many = chains.long in omega arith) ∙ chains.last own le)
+          ];
+        }
+
+  module _ (lasts previous : List ℕ) (chained : Chained nodes lasts previous) (few : length nodes ≤ most_scopes_in_all) where
+    -- a node and the siblings before it
+    pub from_node : (i : ℕ) → i < length nodes → siblings_from nodes i ≡ sibling_at nodes i ∷ siblings_from nodes (get_or previous i no_parent)
+    from_node i lt =
+        ap (λ b. cond b [] (next (slot_at nodes i) i)) (ne_eqb i no_parent (λ e. absurd (omega arith)))
+        ∙ ap (λ (xs : List Sibling). sibling_at nodes i ∷ xs) (from_first (slot_at nodes i) i (omega arith) ∙ ap (siblings_from nodes) (sym (chained.before i lt)))
+
+    pub previous_in : (i : ℕ) → i < length nodes → IsIndex (get_or previous i no_parent) (length nodes)
+    previous_in i lt = subst (λ (j : ℕ). IsIndex j (length nodes)) (sym (chained.before i lt)) (λ some. (let less = first_in (slot_at nodes i) i some in omega arith))
+
+    pub last_in : (slot : ℕ) → slot ≤ length nodes → IsIndex (get_or lasts slot no_parent) (length nodes)
+    last_in slot le = subst (λ (j : ℕ). IsIndex j (length nodes)) (sym (chained.last slot le)) (first_in slot (length nodes))
+
+    pub from_last : (slot : ℕ) → slot ≤ length nodes → siblings_below nodes slot (length nodes) ≡ siblings_from nodes (get_or lasts slot no_parent)
+    from_last slot le = from_first slot (length nodes) few ∙ ap (siblings_from nodes) (sym (chained.last slot le))
+
+-- ---- what the loops leave
+
+pub slot_in : (p n : ℕ) → IsIndex p n → n ≤ most_scopes_in_all → next_index p ≤ n
+slot_in p n place few =
+    elim (place_cases p n place) [
+      | inl none ↦ subst (λ (q : ℕ). next_index q ≤ n) (sym none) (omega arith)
+      | inr less ↦ (let is = next_of p (omega arith) in omega arith)
+    ]
+
+value_at : (xs : List ℕ) (i v : ℕ) → i < length xs → v ≡ get_or xs i v → v ≡ get_or xs i no_parent
+value_at xs i v lt read = read ∙ get_or_default xs i v no_parent lt
+
+module _ (nodes : List Node) (lasts previous : List ℕ) where
+  pub chains_next : (k value : ℕ) (d : Node) → Chains nodes lasts previous k → StandBefore nodes → length nodes ≤ most_scopes_in_all → k < length nodes
+      → value ≡ get_or lasts (next_index (get_or nodes k d).parent) value
+      → Chains nodes (set lasts (next_index (get_or nodes k d).parent) k) (set previous k value) (k + 1)
+  chains_next k value d chains before few lt read =
+      let own : get_or nodes k d ≡ linked_node nodes k = get_or_default nodes k d no_node lt in
+      let place : IsIndex (linked_node nodes k).parent k = before k (linked_node nodes k) (slice_get-get_or nodes k no_node lt) in
+      let low = slot_in (linked_node nodes k).parent k place (omega arith) in
+      let at : next_index (get_or nodes k d).parent ≡ slot_at nodes k = ap (λ (n : Node). next_index n.parent) own in
+      let value_is : value ≡ get_or lasts (next_index (get_or nodes k d).parent) no_parent = value_at lasts (next_index (get_or nodes k d).parent) value (let many = chains.slots in omega arith) read in
+      let next : Chains nodes (set lasts (slot_at nodes k) k) (set previous k (get_or lasts (slot_at nodes k) no_parent)) (suc k) = chains_step nodes lasts previous k chains lt (omega arith) in
+      let more : suc k ≡ k + 1 = omega arith in
+      subst (Chains nodes (set lasts (next_index (get_or nodes k d).parent) k) (set previous k value)) more
+      (subst (λ (v : ℕ). Chains nodes (set lasts (next_index (get_or nodes k d).parent) k) (set previous k v) (suc k)) (sym value_is)
+      (subst (λ (n : Node). Chains nodes (set lasts (next_index n.parent) k) (set previous k (get_or lasts (next_index n.parent) no_parent)) (suc k)) (sym own) next))
+
+  module _ (chained : Chained nodes lasts previous) (few : length nodes ≤ most_scopes_in_all) (i value : ℕ) (lt : i < length nodes) (read : value ≡ get_or previous i value) where
+    value_is : value ≡ get_or previous i no_parent
+    value_is = value_at previous i value (let many = chained.long in omega arith) read
+
+    pub then_fewer : length (siblings_from nodes value) < length (siblings_from nodes i)
+    then_fewer =
+        let one_more : length (siblings_from nodes i) ≡ suc (length (siblings_from nodes (get_or previous i no_parent))) = ap (λ (xs : List Sibling). length xs) (from_node nodes lasts previous chained few i lt) in
+        let same : length (siblings_from nodes value) ≡ length (siblings_from nodes (get_or previous i no_parent)) = ap (λ (j : ℕ). length (siblings_from nodes j)) value_is in
+        omega arith
+
+    pub then_index : IsIndex value (length nodes)
+    then_index = subst (λ (j : ℕ). IsIndex j (length nodes)) (sym value_is) (previous_in nodes lasts previous chained few i lt)
+
+    pub then_gathered : (done more all : List Sibling) (d : Node) → more ≡ done ++ (record { scope = (get_or nodes i d).scope; index = i }) ∷ [] → done ++ siblings_from nodes i ≡ all → more ++ siblings_from nodes value ≡ all
+    then_gathered done more all d more_is gathered =
+        let node : get_or nodes i d ≡ linked_node nodes i = get_or_default nodes i d no_node lt in
+        let pushed : more ≡ done ++ sibling_at nodes i ∷ [] = more_is ∙ ap (λ (n : Node). done ++ (record { scope = n.scope; index = i }) ∷ []) node in
+        let rest : siblings_from nodes i ≡ sibling_at nodes i ∷ siblings_from nodes value = from_node nodes lasts previous chained few i lt ∙ ap (λ (j : ℕ). sibling_at nodes i ∷ siblings_from nodes j) (sym value_is) in
+        ap (λ (xs : List Sibling). xs ++ siblings_from nodes value) pushed ∙ append_assoc done (sibling_at nodes i ∷ []) (siblings_from nodes value) ∙ ap (λ (xs : List Sibling). done ++ xs) (sym rest) ∙ gathered
+
+    pub only_one : value ≡ no_parent → siblings_from nodes i ≡ sibling_at nodes i ∷ []
+    only_one none = from_node nodes lasts previous chained few i lt ∙ ap (λ (j : ℕ). sibling_at nodes i ∷ siblings_from nodes j) (sym value_is ∙ none)
+
+  module _ (chained : Chained nodes lasts previous) (few : length nodes ≤ most_scopes_in_all) (p last : ℕ) (index : IsIndex p (length nodes)) (read : last ≡ get_or lasts (next_index p) last) where
+    last_is : last ≡ get_or lasts (next_index p) no_parent
+    last_is = value_at lasts (next_index p) last (let many = chained.slots in let low = slot_in p (length nodes) index few in omega arith) read
+
+    pub last_index : IsIndex last (length nodes)
+    last_index = subst (λ (j : ℕ). IsIndex j (length nodes)) (sym last_is) (last_in nodes lasts previous chained few (next_index p) (slot_in p (length nodes) index few))
+
+    pub children_from : (group : List Sibling) → IsPermutation (siblings_from nodes last) group → IsSorted sibling_order group → SortedChildren nodes p (indices_down group)
+    children_from group moved sorted = record {
+      group = group;
+      moved = subst (λ (xs : List Sibling). IsPermutation xs group) (sym (from_last nodes lasts previous chained few (next_index p) (slot_in p (length nodes) index few) ∙ ap (siblings_from nodes) (sym last_is))) moved;
+      sorted = sorted;
+      kids_are = refl;
+    }
+
+    pub only_child : siblings_from nodes last ≡ sibling_at nodes last ∷ [] → SortedChildren nodes p (last ∷ [])
+    only_child one = children_from (sibling_at nodes last ∷ []) (subst (λ (xs : List Sibling). IsPermutation xs (sibling_at nodes last ∷ [])) (sym one) (IsPermutation-refl (sibling_at nodes last ∷ []))) (λ k d low lt. absurd (omega arith))
+
+    -- what is gathered and sorted is pushed
+    pub pushed_children : (gathered sorted lent : List Sibling) → gathered ≡ siblings_from nodes last → IsPermutation gathered sorted → IsSorted sibling_order sorted → lent ≡ sorted
+        → {E : Type 0} (r : Result (Unit {0}) E) (old new : List ℕ) → OnOk r (new ≡ old ++ indices_down lent)
+        → OnOk r ((x : List ℕ) × SortedChildren nodes p x × (new ≡ old ++ x))
+    pushed_children gathered sorted lent gathered_is moved up lent_is (Ok _) old new is =
+        (indices_down sorted, children_from sorted (subst (λ (xs : List Sibling). IsPermutation xs sorted) gathered_is moved) up, is ∙ ap (λ (xs : List Sibling). old ++ indices_down xs) lent_is)
+    pushed_children gathered sorted lent gathered_is moved up lent_is (Err _) old new is = is
+
+-- ---- lists
 
 abbrev index_of : Sibling → ℕ
 index_of s = s.index
@@ -170,39 +290,35 @@ next_once p q n p_place q_place few same =
       ]
     ]
 
-module _ (nodes : List Node) (flags : List Bool) (siblings : List Sibling) (g : Groups nodes flags siblings) (are : AreNodes nodes) (p : ℕ) (index : IsIndex p (length nodes)) where
+module _ (nodes : List Node) (are : AreNodes nodes) (p : ℕ) (index : IsIndex p (length nodes)) (kids : List ℕ) (found : SortedChildren nodes p kids) where
   abbrev slot : ℕ
   slot = next_index p
 
   wider : (i : ℕ) → i < length nodes → IsIndex (linked_node nodes i).parent (length nodes)
   wider i lt inner = (let less = are.rooted.before i lt inner in omega arith)
 
+  abbrev all : List Sibling
+  all = siblings_below nodes slot (length nodes)
+
   abbrev group : List Sibling
-  group = group_at siblings slot
+  group = found.group
 
   abbrev IsChild : Sibling → Type 0
-  IsChild s = ((s.index < length nodes) × ((linked_node nodes s.index).parent ≡ p)) × ((s ≡ sibling_at nodes s.index) × (s.slot ≡ slot))
-
-  in_slot : (s : Sibling) → (s.slot == slot) ≡ true → s.slot ≡ slot
-  in_slot s e = elim (eqb_tells s.slot slot) as (λ _. s.slot ≡ slot) [ inl is ↦ is.1 | inr apart ↦ absurd (true≢false (sym e ∙ apart.0)) ]
+  IsChild s = ((s.index < length nodes) × ((linked_node nodes s.index).parent ≡ p)) × (s ≡ sibling_at nodes s.index)
 
   group_is : All IsChild group
   group_is =
-      All-weaker (λ s. IsOne nodes s × ((s.slot == slot) ≡ true)) IsChild
-      (λ s h.
-      let own : s.slot ≡ slot = in_slot s h.1 in
-      let at : slot_at nodes s.index ≡ slot = ap (λ (x : Sibling). x.slot) (sym h.0.1) ∙ own in
-      ((h.0.0, next_once (linked_node nodes s.index).parent p (length nodes) (wider s.index h.0.0) index are.few at), (h.0.1, own)))
-      group (filter_passes (IsOne nodes) (λ s. s.slot == slot) siblings g.only)
+      All-permutation IsChild all group found.moved
+      (All-weaker (IsLow nodes slot (length nodes)) IsChild
+      (λ s low. ((low.0, next_once (linked_node nodes s.index).parent p (length nodes) (wider s.index low.0) index are.few low.1.0), low.1.1))
+      all (below_only nodes slot (length nodes)))
 
   group_up : AllPairs (λ a b. sibling_order a b ≡ Less) group
-  group_up = AllPairs-filter (λ a b. sibling_order a b ≡ Less) (λ s. s.slot == slot) siblings g.ascend
+  group_up = sorted_up group found.sorted (IsDistinct-IsPermutation same_index flips all group found.moved (below_distinct nodes slot (length nodes)))
 
   scopes_up : (a b : Sibling) → IsChild a → IsChild b → sibling_order a b ≡ Less → scope_order (linked_node nodes a.index).scope (linked_node nodes b.index).scope ≡ Less
   scopes_up a b a_is b_is less =
-      let slots : nat_cmp a.slot b.slot ≡ Equal = ap (nat_cmp a.slot) (b_is.1.1 ∙ sym a_is.1.1) ∙ nat_same a.slot in
-      let rest : ordering_then (scope_order a.scope b.scope) (nat_cmp a.index b.index) ≡ Less = sym (ap (λ o. ordering_then o (ordering_then (scope_order a.scope b.scope) (nat_cmp a.index b.index))) slots) ∙ less in
-      let same : scope_order a.scope b.scope ≡ scope_order (linked_node nodes a.index).scope (linked_node nodes b.index).scope = ap₂ (λ (x y : Sibling). scope_order x.scope y.scope) a_is.1.0 b_is.1.0 in
+      let same : scope_order a.scope b.scope ≡ scope_order (linked_node nodes a.index).scope (linked_node nodes b.index).scope = ap₂ (λ (x y : Sibling). scope_order x.scope y.scope) a_is.1 b_is.1 in
       sym same ∙ elim (scope_order a.scope b.scope) as (λ o. scope_order a.scope b.scope ≡ o → ordering_then o (nat_cmp a.index b.index) ≡ Less → o ≡ Less) [
         | Less ↦ λ e f. refl
         | Equal ↦ λ e f.
@@ -212,7 +328,7 @@ module _ (nodes : List Node) (flags : List Bool) (siblings : List Sibling) (g : 
             let one : a.index ≡ b.index = are.rooted.once a.index b.index a_is.0.0 b_is.0.0 paths in
             let tie : Equal ≡ Less = sym (ap (nat_cmp a.index) (sym one) ∙ nat_same a.index) ∙ f in absurd cc
         | Greater ↦ λ e f. absurd cc
-      ] refl rest
+      ] refl less
 
   abbrev down : List ℕ
   down = indices_down group
@@ -232,14 +348,13 @@ module _ (nodes : List Node) (flags : List Bool) (siblings : List Sibling) (g : 
       subst (λ (k : ℕ). (k < length nodes) × ((linked_node nodes k).parent ≡ p)) (sym (down_at i d lt))
       (All-get_or IsChild group (length group - 1 - i) z (let long = down_long in omega arith) group_is).0
 
-  branch_children : flag_at flags slot ≡ true → AreChildren nodes p down
-  branch_children on = record {
+  pub children_are : AreChildren nodes p kids
+  children_are = subst (AreChildren nodes p) (sym found.kids_are) (record {
     only = down_is;
     all = λ i lt is.
-        let own : slot_at nodes i ≡ slot = ap next_index is in
-        let there = g.all i lt (ap (flag_at flags) own ∙ on) in
-        let among = filter_has (λ s. s.slot == slot) siblings (sibling_at nodes i) there (eq-eqb (slot_at nodes i) slot own) in
-        map_has (reverse group) (sibling_at nodes i) (Contains-permutation group (reverse group) (sibling_at nodes i) (IsPermutation-reverse group) among);
+        let among = below_has nodes slot (length nodes) i lt (ap next_index is) in
+        let moved = Contains-permutation all group (sibling_at nodes i) found.moved among in
+        map_has (reverse group) (sibling_at nodes i) (Contains-permutation group (reverse group) (sibling_at nodes i) (IsPermutation-reverse group) moved);
     fall = λ i j d below lt.
         let z : Sibling = sibling_at nodes 0 in
         let long = down_long in
@@ -248,111 +363,4 @@ module _ (nodes : List Node) (flags : List Bool) (siblings : List Sibling) (g : 
         let up = group_up a b z (omega arith) (omega arith) in
         ap₂ (λ (x y : ℕ). scope_order (linked_node nodes x).scope (linked_node nodes y).scope) (down_at j d lt) (down_at i d (omega arith))
         ∙ scopes_up (get_or group a z) (get_or group b z) (All-get_or IsChild group a z (omega arith) group_is) (All-get_or IsChild group b z (omega arith) group_is) up;
-  }
-
-  abbrev is_run : Bool
-  is_run = nat_lt slot (length nodes) && (linked_node nodes slot).parent == p
-
-  run_is : is_run ≡ true → (slot < length nodes) × ((linked_node nodes slot).parent ≡ p)
-  run_is e =
-      elim (cases_lt slot (length nodes)) [
-        | inl less ↦ elim (cases_eq (linked_node nodes slot).parent p) [
-          | inl is ↦ (less, is)
-          | inr apart ↦ absurd (true≢false (sym e ∙ ap₂ (λ (s t : Bool). s && t) (lt-ltb slot (length nodes) less) (ne_eqb (linked_node nodes slot).parent p apart)))
-        ]
-        | inr past ↦ absurd (true≢false (sym e ∙ ap (λ t. t && (linked_node nodes slot).parent == p) (le-ltb slot (length nodes) past)))
-      ]
-
-  run_has : (i : ℕ) → i < length nodes → (linked_node nodes i).parent ≡ p → flag_at flags slot ≡ false → (i ≡ slot) × (is_run ≡ true)
-  run_has i lt is off =
-      let own : slot_at nodes i ≡ slot = ap next_index is in
-      let at : i ≡ slot = sym (g.marks i lt (ap (flag_at flags) own ∙ off)) ∙ own in
-      (at, ap₂ (λ (s t : Bool). s && t) (lt-ltb slot (length nodes) (omega arith)) (eq-eqb (linked_node nodes slot).parent p (ap (λ (k : ℕ). (linked_node nodes k).parent) (sym at) ∙ is)))
-
-  run_children : flag_at flags slot ≡ false → AreChildren nodes p (run_child nodes p)
-  run_children off =
-      elim is_run as (λ b. is_run ≡ b → AreChildren nodes p (cond b (slot ∷ []) [])) [
-        | true ↦ λ e. record {
-          only = All-cons (λ k. (k < length nodes) × ((linked_node nodes k).parent ≡ p)) slot [] (run_is e) (All-nil (λ k. (k < length nodes) × ((linked_node nodes k).parent ≡ p)));
-          all = λ i lt is. (zero, omega arith, sym (run_has i lt is off).0);
-          fall = λ i j d below lt. absurd (omega arith);
-        }
-        | false ↦ λ e. record {
-          only = All-nil (λ k. (k < length nodes) × ((linked_node nodes k).parent ≡ p));
-          all = λ i lt is. absurd (true≢false (sym (run_has i lt is off).1 ∙ e));
-          fall = λ i j d below lt. absurd (omega arith);
-        }
-      ] refl
-
-  pub children_are : AreChildren nodes p (children_of nodes flags siblings p)
-  children_are =
-      elim (flag_at flags slot) as (λ b. flag_at flags slot ≡ b → AreChildren nodes p (cond b down (run_child nodes p))) [
-        | true ↦ λ on. branch_children on
-        | false ↦ λ off. run_children off
-      ] refl
-
--- ---- where a group is
-
-pub rises : (xs : List Sibling) → AllPairs (λ a b. sibling_order a b ≡ Less) xs → IsNonDecreasingBy (λ (s : Sibling). s.slot) xs
-rises xs up i j d le lt =
-    elim (cases_lt i j) [
-      | inl less ↦ first_le (get_or xs i d) (get_or xs j d) (up i j d less lt)
-      | inr same ↦ (let is : i ≡ j = omega arith in subst (λ (k : ℕ). (get_or xs i d).slot ≤ (get_or xs k d).slot) is (omega arith))
-    ]
-  where
-    first_le : (a b : Sibling) → sibling_order a b ≡ Less → a.slot ≤ b.slot
-    first_le a b less =
-        elim (cases_lt b.slot a.slot) [
-          | inl above ↦
-              let greater : nat_cmp a.slot b.slot ≡ Greater = ap (λ t. cond t Less (cond (a.slot == b.slot) Equal Greater)) (le-ltb a.slot b.slot (omega arith)) ∙ ap (λ t. cond t Equal Greater) (ne_eqb a.slot b.slot (λ e. absurd (omega arith))) in
-              let two : Greater ≡ Less = sym (ap (λ o. ordering_then o (ordering_then (scope_order a.scope b.scope) (nat_cmp a.index b.index))) greater) ∙ less in absurd cc
-          | inr le ↦ le
-        ]
-
-filter_all : (t : Sibling → Bool) (xs : List Sibling) → ((k : ℕ) (d : Sibling) → k < length xs → t (get_or xs k d) ≡ true) → filter t xs ≡ xs
-filter_all t [] all = refl
-filter_all t (x ∷ xs) all = ap (λ b. cond b (x ∷ filter t xs) (filter t xs)) (all 0 x (omega arith)) ∙ ap (λ (l : List Sibling). x ∷ l) (filter_all t xs (λ k d lt. all (suc k) d (omega arith)))
-
-filter_none : (t : Sibling → Bool) (xs : List Sibling) → ((k : ℕ) (d : Sibling) → k < length xs → t (get_or xs k d) ≡ false) → filter t xs ≡ []
-filter_none t [] all = refl
-filter_none t (x ∷ xs) all = ap (λ b. cond b (x ∷ filter t xs) (filter t xs)) (all 0 x (omega arith)) ∙ filter_none t xs (λ k d lt. all (suc k) d (omega arith))
-
--- what two searches leave is the group
-pub group_found : (xs : List Sibling) (slot start count : ℕ) → AllPairs (λ a b. sibling_order a b ≡ Less) xs → start ≤ length xs → count ≤ length (take (length xs - start) (drop start xs))
-    → IsPartitionPoint (λ s. ltb s.slot slot ≡ true) (λ s. ltb s.slot slot ≡ false) xs start
-    → IsPartitionPoint (λ s. leb s.slot slot ≡ true) (λ s. leb s.slot slot ≡ false) (take (length xs - start) (drop start xs)) count
-    → take count (take (length xs - start) (drop start xs)) ≡ filter (λ s. s.slot == slot) xs
-group_found xs slot start count up start_le count_le first second =
-    let t : Sibling → Bool = λ s. s.slot == slot in
-    let tail : List Sibling = drop start xs in
-    let rest : List Sibling = take (length xs - start) tail in
-    let rest_is : rest ≡ tail = take_all (length xs - start) tail (omega (arith, length-drop start xs)) in
-    let tail_long = length-drop start xs in
-    let rest_long = ap (λ (l : List Sibling). length l) rest_is in
-    let front_none : filter t (take start xs) ≡ [] = filter_none t (take start xs) (λ k d lt.
-    let long = length-take-le start xs start_le in
-    let below : ltb (get_or (take start xs) k d).slot slot ≡ true = ap (λ (s : Sibling). ltb s.slot slot) (get_or-take start xs k d (omega arith)) ∙ first.0 k d (omega arith) (omega arith) in
-    let less = ltb-true (get_or (take start xs) k d).slot slot below in
-    ne_eqb (get_or (take start xs) k d).slot slot (λ e. absurd (omega arith))) in
-    let at_least : (k : ℕ) (d : Sibling) → k < length rest → slot ≤ (get_or rest k d).slot = λ k d lt.
-    (let at : get_or rest k d ≡ get_or xs (start + k) d = ap (λ (l : List Sibling). get_or l k d) rest_is ∙ get_or-drop start xs k d in
-    let low : ltb (get_or xs (start + k) d).slot slot ≡ false = first.1 (start + k) d (omega arith) (omega arith) in
-    let high = ltb-false (get_or xs (start + k) d).slot slot low in
-    subst (λ (s : Sibling). slot ≤ s.slot) (sym at) high) in
-    let middle_all : filter t (take count rest) ≡ take count rest = filter_all t (take count rest) (λ k d lt.
-    let long = length-take-le count rest count_le in
-    let at : get_or (take count rest) k d ≡ get_or rest k d = get_or-take count rest k d (omega arith) in
-    let low = leb-true (get_or rest k d).slot slot (second.0 k d (omega arith) (omega arith)) in
-    let high = at_least k d (omega arith) in
-    eq-eqb (get_or (take count rest) k d).slot slot (ap (λ (s : Sibling). s.slot) at ∙ (omega arith))) in
-    let end_none : filter t (drop count rest) ≡ [] = filter_none t (drop count rest) (λ k d lt.
-    let long = length-drop count rest in
-    let at : get_or (drop count rest) k d ≡ get_or rest (count + k) d = get_or-drop count rest k d in
-    let above = leb-false (get_or rest (count + k) d).slot slot (second.1 (count + k) d (omega arith) (omega arith)) in
-    ne_eqb (get_or (drop count rest) k d).slot slot (λ e. (let own = ap (λ (s : Sibling). s.slot) at in absurd (omega arith)))) in
-    sym (ap (filter t) (sym (take-append-drop start xs)) ∙ filter-append t (take start xs) tail ∙ ap₂ (λ (a b : List Sibling). a ++ b) front_none
-    (ap (filter t) (sym rest_is ∙ sym (take-append-drop count rest)) ∙ filter-append t (take count rest) (drop count rest)
-    ∙ ap₂ (λ (a b : List Sibling). a ++ b) middle_all end_none ∙ append-nil (take count rest)))
-
-pub rest_rises : (xs : List Sibling) (start : ℕ) → AllPairs (λ a b. sibling_order a b ≡ Less) xs → IsNonDecreasingBy (λ (s : Sibling). s.slot) (take (length xs - start) (drop start xs))
-rest_rises xs start up = IsNonDecreasingBy-take (λ (s : Sibling). s.slot) (length xs - start) (drop start xs) (IsNonDecreasingBy-drop (λ (s : Sibling). s.slot) start xs (rises xs up))
+  })

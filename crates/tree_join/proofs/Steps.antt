@@ -23,7 +23,6 @@ use Rattle.path_trie.specs.private.Linked.{linked_node, no_node}
 use Rattle.path_trie.proofs.Places.{last_cases, not_empty, tree_paths_push}
 use Rattle.tree_join.specs.declared.children.Children.{Children}
 use Rattle.tree_join.specs.declared.walker.Walker.{Walker}
-use Rattle.tree_join.specs.private.Children.{children_of}
 use Rattle.tree_join.specs.private.Walk.{path_or_none, renumbered, next_node, nodes_in, walked_entries, head_node, node_before, Advances, IsWalker, Leads, NotAfter, Walks, WalksTrie, Walking}
 use Rattle.tree_join.proofs.Groups.{children_are}
 use Rattle.tree_join.proofs.Heads.{Next, leads, first_of_two}
@@ -120,15 +119,14 @@ module _ (order : List Node) (w : Walker) (is : IsWalker order w) where
       ∙ ap (λ (k : ℕ). get_or stack k 0) (let long = ap (λ (x : List ℕ). length x) a.popped in let parts = length-append a.rest (a.index ∷ []) in omega arith) ∙ top.at in
       let node : n ≡ renumbered nodes w.numbers.items a.index = top.node ∙ ap (renumbered nodes w.numbers.items) (sym place_is) in
       let on : Walks nodes w.numbers.items (a.rest ++ a.index ∷ []) order = subst (λ (x : List ℕ). Walks nodes w.numbers.items x order) a.popped is.walks in
-      let kids : List ℕ = children_of nodes w.children.flags.items w.children.siblings.items a.index in
       let inside : a.index < length nodes = top_place nodes is.are w.numbers.items a.rest order a.index on in
-      let more = step nodes is.are w.numbers.items a.rest order a.index on kids (children_are nodes w.children.flags.items w.children.siblings.items is.groups is.are a.index (λ inner. inside)) few in
-      let new : WalksTrie w.children w.ends.now (set w.numbers.items a.index (length order)) (a.rest ++ kids) (order ++ n ∷ []) = record {
-        groups = is.groups;
+      let more = step nodes is.are w.numbers.items a.rest order a.index on a.kids (children_are nodes is.are a.index (λ inner. inside) a.kids a.kids_are) few in
+      let new : WalksTrie w.children w.ends.now (set w.numbers.items a.index (length order)) (a.rest ++ a.kids) (order ++ n ∷ []) = record {
+        chained = is.chained;
         are = is.are;
         nodes_are = is.nodes_are;
         ends_in = is.ends_in;
-        walks = subst (λ (x : Node). Walks nodes (set w.numbers.items a.index (length order)) (a.rest ++ kids) (order ++ x ∷ [])) (sym node) more;
+        walks = subst (λ (x : Node). Walks nodes (set w.numbers.items a.index (length order)) (a.rest ++ a.kids) (order ++ x ∷ [])) (sym node) more;
       } in
       subst (λ (x : Children). WalksTrie x v.ends.now v.numbers.items v.stack.items (order ++ n ∷ [])) (sym a.children)
       (subst (λ x. WalksTrie w.children x v.numbers.items v.stack.items (order ++ n ∷ [])) (sym (ap (λ b. b.now) a.ends))
@@ -153,7 +151,7 @@ module _ (order : List Node) (w : Walker) (is : IsWalker order w) where
 
     pub stays : IsWalker (order ++ n ∷ []) w
     stays = record {
-      groups = is.groups;
+      chained = is.chained;
       are = is.are;
       nodes_are = is.nodes_are;
       ends_in = is.ends_in;

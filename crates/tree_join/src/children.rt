@@ -1,76 +1,21 @@
-//! The children of a trie's nodes. Most nodes have one child, which lies right after them; the children of all
-//! others are sorted.
-ghost use Rattle.std.specs.Prelude.{◌≡◌, ◌+◌, ◌≤◌, ◌++◌, ◌==◌, ◌&&◌, nat_lt, length, map, reverse, filter, AllPairs};
-ghost use Rattle.std.specs.Prelude.{IfOk, OnOk};
-ghost use Rattle.std.specs.declared.cmp.Ordering.TheVariants.{Less};
-ghost use Rattle.scope_types.specs.Limits.{most_scopes_in_all};
+//! The children of a trie's nodes, as linked lists. They are sorted one list at a time, where a walk comes to their
+//! parent, since most nodes have one child.
+ghost use Rattle.std.specs.Prelude.{◌≡◌, ℕ, ◌≤◌, ◌++◌, ◌∷◌, [], List, length, map, reverse, IfOk, OnOk, true};
 ghost use Rattle.std.specs.List.Sorted.{IsPermutation, IsSorted};
+ghost use Rattle.scope_types.specs.Limits.{most_scopes_in_all};
 ghost use Rattle.path_trie.specs.Trie.{IsIndex, StandBefore};
-ghost use Rattle.path_trie.specs.private.Linked.{linked_node};
-ghost use Rattle.tree_join.specs.private.Children.{siblings_below, sibling_order, MarksBranches, Groups, children_of};
+ghost use Rattle.tree_join.specs.private.Children.{Chained, SortedChildren, sibling_order, sibling_at, siblings_from};
 
 use prof_bytes::Memory;
 use scope_types::Scope;
 use std::alloc::Global;
-use tree_types::Node;
+use tree_types::{NO_PARENT, Node};
 
-/// A node whose parent has a child elsewhere than right after it: the index right after the parent, which is 0 for
-/// a root, the node's scope, and its own index.
+/// A node among its siblings: its scope, and its index.
 #[derive(Clone, Copy, Debug, PartialEq, Eq, PartialOrd, Ord, Drop)]
 pub struct Sibling {
-    pub slot: u32,
     pub scope: Scope,
     pub index: u32,
-}
-
-/// For each index, whether a node that lies elsewhere has its parent right before that index.
-fn branching_slots(alloc: Global, nodes: &[Node]) -> Result<Vec<bool>, Memory>
-    requires before { StandBefore nodes.now }
-    requires few { length nodes.now ≤ most_scopes_in_all }
-    ensures len { IfOk result (λ flags. length flags.items ≡ length nodes.now + 1) }
-    ensures marks { IfOk result (λ flags. MarksBranches nodes.now flags.items) }
-{
-    // room: `nodes.len() + 1`, a flag for each index up to the end
-    let mut flags = vec![in alloc; false; nodes.len() + 1]?;
-    for (index, node) in nodes.iter().enumerate() {
-        let slot = node.parent.wrapping_add(1) as usize;
-        if slot != index {
-            flags[slot] = true;
-        }
-    }
-    Ok(flags)
-}
-
-/// The nodes whose parents branch, in their order.
-fn siblings_of(alloc: Global, nodes: &[Node], flags: &[bool]) -> Result<Vec<Sibling>, Memory>
-    requires before { StandBefore nodes.now }
-    requires few { length nodes.now ≤ most_scopes_in_all }
-    requires long { length flags.now ≡ length nodes.now + 1 }
-    ensures { IfOk result (λ siblings. siblings.items ≡ siblings_below nodes.now flags.now (length nodes.now)) }
-{
-    let mut siblings = Vec::new(alloc);
-    for (index, node) in nodes.iter().enumerate() {
-        let slot = node.parent.wrapping_add(1);
-        if flags[slot as usize] {
-            siblings.push(Sibling {
-                slot,
-                scope: node.scope,
-                index: index as u32,
-            })?;
-        }
-    }
-    Ok(siblings)
-}
-
-/// The siblings of one parent.
-fn group(siblings: &[Sibling], slot: u32) -> &[Sibling]
-    requires { AllPairs (λ a b. sibling_order a b ≡ Less) siblings.now }
-    ensures { result.now ≡ filter (λ s. s.slot == slot) siblings.now }
-{
-    let start = siblings.partition_point(|s| s.slot < slot);
-    let rest = &siblings[start..];
-    let count = rest.partition_point(|s| s.slot <= slot);
-    &rest[..count]
 }
 
 /// Puts siblings on a stack, the first of them on top.
@@ -93,25 +38,14 @@ fn sort(siblings: &mut Vec<Sibling>)
     siblings.sort_unstable();
 }
 
-/// The siblings of the nodes at whose parents' next indices a flag is set, in order.
-fn sorted_siblings(alloc: Global, nodes: &[Node], flags: &[bool]) -> Result<Vec<Sibling>, Memory>
-    requires before { StandBefore nodes.now }
-    requires few { length nodes.now ≤ most_scopes_in_all }
-    requires long { length flags.now ≡ length nodes.now + 1 }
-    requires marks { MarksBranches nodes.now flags.now }
-    ensures { IfOk result (λ siblings. Groups nodes.now flags.now siblings.items) }
-{
-    let mut siblings = siblings_of(alloc, nodes, flags)?;
-    sort(&mut siblings);
-    Ok(siblings)
-}
-
-/// The children of nodes.
+/// The children of nodes. Those of a node are a list that begins with its last child.
 #[derive(Drop)]
 pub struct Children<'a> {
     pub nodes: &'a [Node],
-    flags: Vec<bool>,
-    siblings: Vec<Sibling>,
+    /// The last child of each node, at the index right after the node; the last root at 0.
+    lasts: Vec<u32>,
+    /// The sibling before each node.
+    previous: Vec<u32>,
 }
 
 impl<'a> Children<'a> {
@@ -120,42 +54,74 @@ impl<'a> Children<'a> {
         requires before { StandBefore nodes.now }
         requires few { length nodes.now ≤ most_scopes_in_all }
         ensures nodes { IfOk result (λ children. children.nodes.now ≡ nodes.now) }
-        ensures groups { IfOk result (λ children. Groups nodes.now children.flags.items children.siblings.items) }
+        ensures chained { IfOk result (λ children. Chained nodes.now children.lasts.items children.previous.items) }
     {
-        let flags = branching_slots(alloc, nodes)?;
-        let siblings = sorted_siblings(alloc, nodes, flags.as_slice())?;
+        // room: `nodes.len() + 1`, the last child of each node, and the last root
+        let mut lasts = vec![in alloc; NO_PARENT; nodes.len() + 1]?;
+        // room: `nodes.len()`, the sibling before each node
+        let mut previous = vec![in alloc; NO_PARENT; nodes.len()]?;
+        for (index, node) in nodes.iter().enumerate() {
+            let slot = node.parent.wrapping_add(1) as usize;
+            previous[index] = lasts[slot];
+            lasts[slot] = index as u32;
+        }
         Ok(Children {
             nodes,
-            flags,
-            siblings,
+            lasts,
+            previous,
         })
     }
 
-    /// Puts the children of a node on a stack, the first of them on top; those of no node are the roots.
-    pub fn push(&self, parent: u32, stack: &mut Vec<u32>) -> Result<(), Memory>
-        requires groups { Groups self.now.nodes.now self.now.flags.items self.now.siblings.items }
-        requires index { IsIndex parent (length self.now.nodes.now) }
+    /// Puts a node, if there is one, and the siblings before it in a group, which is emptied first.
+    fn gather(&self, last: u32, group: &mut Vec<Sibling>) -> Result<(), Memory>
+        requires chained { Chained self.now.nodes.now self.now.lasts.items self.now.previous.items }
         requires few { length self.now.nodes.now ≤ most_scopes_in_all }
-        ensures { OnOk result (stack.new.items ≡ stack.old.items
-            ++ children_of self.now.nodes.now self.now.flags.items self.now.siblings.items parent) }
+        requires last { IsIndex last (length self.now.nodes.now) }
+        ensures { OnOk result (group.new.items ≡ siblings_from self.now.nodes.now last) }
     {
-        let slot = parent.wrapping_add(1);
-        if self.flags[slot as usize] {
-            return push_group(stack, group(self.siblings.as_slice(), slot));
-        }
-        if is_child(self.nodes, slot, parent) {
-            stack.push(slot)?;
+        group.clear();
+        let mut at = last;
+        while at != NO_PARENT {
+            group.push(Sibling {
+                scope: self.nodes[at as usize].scope,
+                index: at,
+            })?;
+            at = self.previous[at as usize];
         }
         Ok(())
     }
-}
 
-/// Whether a node has this parent.
-fn is_child(nodes: &[Node], index: u32, parent: u32) -> bool
-    ensures { result ≡ (nat_lt index (length nodes.now) && (linked_node nodes.now index).parent == parent) }
-{
-    match nodes.get(index as usize) {
-        Some(node) => node.parent == parent,
-        None => false,
+    /// Whether there is a node with an index, and no sibling before it.
+    fn is_alone(&self, index: u32) -> bool
+        requires chained { Chained self.now.nodes.now self.now.lasts.items self.now.previous.items }
+        requires few { length self.now.nodes.now ≤ most_scopes_in_all }
+        requires index { IsIndex index (length self.now.nodes.now) }
+        ensures { result ≡ true → siblings_from self.now.nodes.now index ≡ sibling_at self.now.nodes.now index ∷ [] }
+    {
+        index != NO_PARENT && self.previous[index as usize] == NO_PARENT
+    }
+
+    /// Puts the children of a node on a stack, the first of them on top; those of no node are the roots. The group is
+    /// room that many calls use.
+    pub fn push(
+        &self,
+        parent: u32,
+        group: &mut Vec<Sibling>,
+        stack: &mut Vec<u32>,
+    ) -> Result<(), Memory>
+        requires chained { Chained self.now.nodes.now self.now.lasts.items self.now.previous.items }
+        requires few { length self.now.nodes.now ≤ most_scopes_in_all }
+        requires index { IsIndex parent (length self.now.nodes.now) }
+        ensures { OnOk result ((kids : List ℕ) × SortedChildren self.now.nodes.now parent kids
+            × (stack.new.items ≡ stack.old.items ++ kids)) }
+    {
+        let last = self.lasts[parent.wrapping_add(1) as usize];
+        if self.is_alone(last) {
+            stack.push(last)?;
+            return Ok(());
+        }
+        self.gather(last, group)?;
+        sort(group);
+        push_group(stack, group.as_slice())
     }
 }

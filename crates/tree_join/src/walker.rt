@@ -8,7 +8,7 @@ ghost use Rattle.path_trie.specs.private.Linked.{linked_node};
 ghost use Rattle.tree_join.specs.private.Walk.{parent_number_at, renumbered, node_before, IsReady, IsWalker, Advances};
 ghost use Rattle.tree_join.specs.private.Walk.{walked_entries, head_node};
 
-use crate::children::Children;
+use crate::children::{Children, Sibling};
 use path_trie::{PathEnd, Trie};
 use prof_bytes::Memory;
 use scope_types::{RootKind, Scope};
@@ -16,14 +16,15 @@ use std::alloc::Global;
 use std::marker::Model;
 use tree_types::{NO_PARENT, Node};
 
-/// A trie's ends and children; the number of each of its nodes that is put in order; and the indices of those that
-/// are next, the first of them last.
+/// A trie's ends and children; the number of each of its nodes that is put in order; the indices of those that are next,
+/// the first of them last; and room for siblings while they are sorted.
 #[derive(Drop)]
 pub struct Walker<'a> {
     pub ends: &'a [PathEnd],
     pub children: Children<'a>,
     pub numbers: Vec<u32>,
     pub stack: Vec<u32>,
+    pub group: Vec<Sibling>,
 }
 
 /// The number of a parent, of which `NO_PARENT` is none.
@@ -89,13 +90,14 @@ impl<'a> Walker<'a> {
         let nodes = trie.nodes();
         let children = Children::of(alloc, nodes)?;
         let numbers = no_numbers(alloc, nodes.len())?;
-        let mut stack = Vec::new(alloc);
-        children.push(NO_PARENT, &mut stack)?;
+        let (mut stack, mut group) = (Vec::new(alloc), Vec::new(alloc));
+        children.push(NO_PARENT, &mut group, &mut stack)?;
         Ok(Walker {
             ends: trie.ends(),
             children,
             numbers,
             stack,
+            group,
         })
     }
 
@@ -114,7 +116,7 @@ impl<'a> Walker<'a> {
     {
         if let Some(index) = self.stack.pop() {
             self.numbers[index as usize] = number;
-            self.children.push(index, &mut self.stack)?;
+            self.children.push(index, &mut self.group, &mut self.stack)?;
         }
         Ok(())
     }

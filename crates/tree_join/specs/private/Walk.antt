@@ -19,7 +19,7 @@ use Rattle.path_trie.specs.Trie.{IsIndex, counted_entry, trie_nodes}
 use Rattle.path_trie.specs.private.Linked.{linked_node, next_index, Rooted}
 use Rattle.tree_join.specs.declared.children.Children.{Children}
 use Rattle.tree_join.specs.declared.walker.Walker.{Walker}
-use Rattle.tree_join.specs.private.Children.{Groups, children_of}
+use Rattle.tree_join.specs.private.Children.{Chained, SortedChildren}
 
 -- the number that an index has got, or no parent's
 abbrev pub number_given : List ℕ → ℕ → ℕ
@@ -103,7 +103,7 @@ head_node w = next_node (nodes_in w) w.numbers.items (slice_get w.stack.items (l
 
 -- what a walker is read by
 pub record IsReady (w : Walker) : Type 0 where
-  pub groups : Groups (nodes_in w) w.children.flags.items w.children.siblings.items
+  pub chained : Chained (nodes_in w) w.children.lasts.items w.children.previous.items
   pub few : length (nodes_in w) ≤ most_scopes_in_all
   pub long : length w.numbers.items ≡ length (nodes_in w)
   pub indices : All (λ p. p < length (nodes_in w)) w.stack.items
@@ -112,7 +112,7 @@ pub record IsReady (w : Walker) : Type 0 where
 -- a walk over a trie, of whose nodes those that are numbered are in order
 pub record WalksTrie (children : Children) (ends : List PathEnd) (numbers stack : List ℕ) (order : List Node)
     : Type 0 where
-  pub groups : Groups children.nodes.now children.flags.items children.siblings.items
+  pub chained : Chained children.nodes.now children.lasts.items children.previous.items
   pub are : AreNodes children.nodes.now
   pub nodes_are : tree_paths children.nodes.now ≡ trie_nodes (map (counted_entry (tree_paths children.nodes.now)) ends)
   pub ends_in : All (λ e. IsIndex e.node (length children.nodes.now)) ends
@@ -143,8 +143,9 @@ pub record Advances (number : ℕ) (w v : Walker) : Type 0 where
   pub index : ℕ
   pub popped : w.stack.items ≡ rest ++ index ∷ []
   pub numbers : v.numbers.items ≡ slice_set w.numbers.items index number
-  pub stack : v.stack.items
-      ≡ rest ++ children_of (nodes_in w) w.children.flags.items w.children.siblings.items index
+  pub kids : List ℕ
+  pub kids_are : SortedChildren (nodes_in w) index kids
+  pub stack : v.stack.items ≡ rest ++ kids
   pub children : v.children ≡ w.children
   pub ends : v.ends ≡ w.ends
 
