@@ -1,10 +1,12 @@
 //! What a memo keeps between paths: what was found at addresses, and the callers of the path that was expanded last.
 ghost use Rattle.std.specs.Prelude.{◌≡◌, ◌++◌, ◌-◌, ◌≤◌, [], length, reverse, take, Contains, IfOk, IfSome};
+ghost use Rattle.std.specs.Prelude.{◌/◌, ◌%◌, option_map};
 ghost use Rattle.scope_types.specs.declared.scope.Scope.TheVariants as scope;
 ghost use Rattle.scope_types.specs.Expansion.{frame_scopes};
 ghost use Rattle.scope_find.specs.Found.{ProgramScopes, found_at};
 ghost use Rattle.scope_find.specs.Views.{found_view};
-ghost use Rattle.scope_expand.specs.Kept.{FoundFits, CallersFit, MemoFits, scopes_of_kept};
+ghost use Rattle.scope_expand.specs.Kept.{FoundFits, CallersFit, MemoFits, most_kept, scopes_of_kept};
+ghost use Rattle.scope_expand.specs.private.Cached.{found_kept};
 ghost use Rattle.scope_expand.specs.private.Frames.{caller_scopes};
 
 use prof_bytes::Memory;
@@ -33,7 +35,9 @@ pub(crate) struct FoundCache {
 }
 
 /// The place of an address. Instructions lie at multiples of 4.
-fn place_of(pc: u32) -> usize {
+fn place_of(pc: u32) -> usize
+    ensures { result ≡ pc / 4 % most_kept }
+{
     (pc / 4) as usize % MOST_KEPT
 }
 
@@ -51,7 +55,9 @@ impl FoundCache {
 
     /// What was found at an address, if it is kept.
     pub(crate) fn get(&self, pc: u32) -> Option<&Found>
-        ensures { IfSome result (λ found. Contains self.now.kept.items (record { pc = pc; found = found.now })) }
+        ensures exact { option_map (λ found. found.now) result
+            ≡ found_kept self.now.numbers.items self.now.kept.items pc }
+        ensures kept { IfSome result (λ found. Contains self.now.kept.items (record { pc = pc; found = found.now })) }
     {
         let number = *self.numbers.as_slice().get(place_of(pc))?;
         let kept = self.kept.as_slice().get(number as usize)?;

@@ -7,5 +7,5 @@ use Rattle.scope_expand.proofs.expander.put_frame.Goals as goal
 
 pub returns-in-Some-clause-scopes : goal.returns-in-Some-clause-scopes
 returns-in-Some-clause-scopes c =
-    let hit = found_hit c.args.finder.now c.args.cache.now.kept.items c.args.pc c.in-Some.found.now c.requires c.in-Some.ensures in
+    let hit = found_hit c.args.finder.now c.args.cache.now.kept.items c.args.pc c.in-Some.found.now c.requires c.in-Some.ensures.kept in
     subst (λ (found : FoundAt). OnOk c.put_found.result (c.put_found.new.scopes.items ≡ c.args.scopes.now.items ++ frame_scopes (last_scope c.args.kind) found)) hit c.put_found.ensures
