@@ -1,3 +1,4 @@
+pub mod CodeWords
 pub mod Stepwise
 pub mod UnwindRules
 pub mod Index

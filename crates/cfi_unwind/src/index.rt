@@ -1,12 +1,13 @@
 //! The unwind rules at a program's addresses, made ready before any path is looked for.
 ghost use Rattle.std.specs.Prelude.{◌≡◌, ℕ, Option, None, ◌+◌, ◌≤◌, ◌^◌, ◌*◌, IfOk, IfSome, length, replicate, slice_get};
 ghost use Rattle.std.specs.Prelude.{true};
+ghost use Rattle.std.specs.Option.{option_copied};
 ghost use Rattle.cfi_unwind.specs.Caller.{Unwinding};
 ghost use Rattle.cfi_table.specs.Frames.{Frames, descriptions, rules_at};
 ghost use Rattle.cfi_table.specs.declared.rules.Rules.{Rules};
 ghost use Rattle.cfi_table.specs.Rows.{AreFirst};
 ghost use Rattle.cfi_unwind.specs.private.Index.{no_id, IsIndexOf, IsFilled, IsRowIn, KeepsIndex};
-ghost use Rattle.cfi_unwind.specs.private.Index.{FindsCallers, IsReady};
+ghost use Rattle.cfi_unwind.specs.private.Index.{FindsCallers, IsReady, rule_in};
 
 use crate::code_words::{address_of, words_below, words_of};
 use crate::prepare::push_rule;
@@ -282,7 +283,8 @@ impl Index {
 
     /// The unwind rule at an address, if it was made ready.
     pub(crate) fn at(&self, pc: u32) -> Option<&UnwindRule>
-        ensures { (u : Unwinding) → IsReady u self.now
+        ensures exact { option_copied result ≡ rule_in self.now pc }
+        ensures finds { (u : Unwinding) → IsReady u self.now
             → IfSome result (λ unwind_rule. FindsCallers u pc unwind_rule.now) }
     {
         let word = pc / 4;

@@ -2,6 +2,7 @@
 ghost use Rattle.std.specs.Prelude.{◌≡◌, ◌+◌, ◌<◌, ◌≤◌, ◌^◌, ℕ, List, [], IfOk, IfSome, length, map, take, false, true};
 ghost use Rattle.std.specs.Prelude.{Option, Some};
 ghost use Rattle.cfi_unwind.specs.private.UnwindRules.{is_kept, saved_rule, usual_layout, return_address_saved, unwound_with, unwound_by};
+ghost use Rattle.cfi_unwind.specs.private.UnwindRules.{is_usual, return_offset, return_saved};
 ghost use Rattle.cfi_unwind.specs.private.UnwindRules.{AreSaved, HasSaved, IsLayoutOf, Recovers, FollowsRules, FollowsSome};
 ghost use Rattle.cfi_unwind.specs.declared.unwind_rule.UnwindRule.TheVariants.{Saved};
 ghost use Rattle.cfi_unwind.specs.private.Index.{IsAt, KeepsRules};
@@ -68,14 +69,16 @@ fn save_each(rules: &RulesRef<'_>, saved: &mut SavedRegisters) -> bool
 }
 
 fn is_usual(layout: &FrameLayout) -> bool
-    ensures { result ≡ true → layout.now ≡ usual_layout layout.now.cfa_offset }
+    ensures exact { result ≡ is_usual layout.now }
+    ensures usual { result ≡ true → layout.now ≡ usual_layout layout.now.cfa_offset }
 {
     layout.cfa_register == SP && layout.return_register == RA
 }
 
 /// The offset at which the return address is saved, where x1 is the only register that is not kept.
 fn return_offset(saved: &[SavedRegister]) -> Option<u32>
-    ensures { IfSome result (λ offset. return_address_saved offset ≡ map saved_rule saved.now) }
+    ensures exact { result ≡ return_offset saved.now }
+    ensures saved { IfSome result (λ offset. return_address_saved offset ≡ map saved_rule saved.now) }
 {
     match saved {
         [only] if only.register == RA => Some(only.offset),
@@ -86,7 +89,8 @@ fn return_offset(saved: &[SavedRegister]) -> Option<u32>
 /// The CFA's offset and the return address's, where the return address alone is saved in the usual layout.
 #[inline(always)]
 fn return_saved(unwind_rule: &UnwindRule) -> Option<(u32, u32)>
-    ensures { IfSome result (λ offsets. (words : Words) (before : List ℕ)
+    ensures exact { result ≡ return_saved unwind_rule.now }
+    ensures same { IfSome result (λ offsets. (words : Words) (before : List ℕ)
         → unwound_with words before (usual_layout offsets.0) (return_address_saved offsets.1)
         ≡ unwound_by words before unwind_rule.now) }
 {

@@ -4,13 +4,15 @@ ghost use Rattle.std.specs.Prelude.{◌≡◌, true};
 use cfi_table::{Cfa, Rule, Rules};
 
 fn is_same_rule(rule: &Rule, other: &Rule) -> bool
-    ensures { result ≡ true → rule.now ≡ other.now }
+    ensures same { result ≡ true → rule.now ≡ other.now }
+    ensures all { rule.now ≡ other.now → result ≡ true }
 {
     rule == other
 }
 
 fn are_same_registers(regs: &[Rule; 32], others: &[Rule; 32]) -> bool
-    ensures { result ≡ true → regs.now ≡ others.now }
+    ensures same { result ≡ true → regs.now ≡ others.now }
+    ensures all { regs.now ≡ others.now → result ≡ true }
 {
     for number in 0..32usize {
         if !is_same_rule(&regs[number], &others[number]) {
@@ -21,13 +23,15 @@ fn are_same_registers(regs: &[Rule; 32], others: &[Rule; 32]) -> bool
 }
 
 fn is_same_cfa(rule: &Cfa, other: &Cfa) -> bool
-    ensures { result ≡ true → rule.now ≡ other.now }
+    ensures same { result ≡ true → rule.now ≡ other.now }
+    ensures all { rule.now ≡ other.now → result ≡ true }
 {
     rule == other
 }
 
 fn is_same_rules(rules: &Rules, other: &Rules) -> bool
-    ensures { result ≡ true → rules.now ≡ other.now }
+    ensures same { result ≡ true → rules.now ≡ other.now }
+    ensures all { rules.now ≡ other.now → result ≡ true }
 {
     rules.return_register == other.return_register
         && is_same_cfa(&rules.cfa, &other.cfa)
@@ -35,7 +39,8 @@ fn is_same_rules(rules: &Rules, other: &Rules) -> bool
 }
 
 pub(crate) fn is_same(rules: &Option<Rules>, other: &Option<Rules>) -> bool
-    ensures { result ≡ true → rules.now ≡ other.now }
+    ensures same { result ≡ true → rules.now ≡ other.now }
+    ensures all { rules.now ≡ other.now → result ≡ true }
 {
     match (rules, other) {
         (Some(rules), Some(other)) => is_same_rules(rules, other),

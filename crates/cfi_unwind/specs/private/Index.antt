@@ -1,6 +1,7 @@
 -- Unwind rules that are made ready.
 use Rattle.std.specs.Prelude.{◌≡◌, ◌⊎◌, ◌<◌, ◌≤◌, ◌+◌, ◌-◌, ◌*◌, ◌^◌, ℕ, List, length, get_or, slice_get, Option}
-use Rattle.std.specs.Prelude.{Some, None}
+use Rattle.std.specs.Prelude.{Some, None, ◌/◌, ◌%◌, ◌==◌, ◌||◌, not, nat_lt, if◌then◌else◌}
+use Rattle.std.specs.Option.{option_and_then}
 use Rattle.cfi_table.specs.declared.rows.Row.{Row}
 use Rattle.cfi_table.specs.declared.rules.Rules.{Rules}
 use Rattle.cfi_unwind.specs.declared.unwind_rule.UnwindRule.{UnwindRule}
@@ -23,6 +24,12 @@ KeepsRules unwind_rules after = (id : ℕ) (found : Option Rules) → IsAt unwin
 -- in place of an id, where no unwind rule is made ready
 abbrev pub no_id : ℕ
 no_id = 2 ^ 32 - 1
+
+-- the unwind rule at the address of a word, where one is made ready
+abbrev pub rule_in : Index → ℕ → Option UnwindRule
+rule_in index pc =
+    if not (pc % 4 == 0) || nat_lt (pc / 4) index.first then None
+    else option_and_then (slice_get index.unwind_rules.items) (slice_get index.ids.items (pc / 4 - index.first))
 
 -- no unwind rule is made ready, or the one at the id follows the rules
 abbrev pub IsId : List UnwindRule → ℕ → Option Rules → Type 0

@@ -1,5 +1,6 @@
 -- The rules at an address in a short form, which leaves out the registers that are kept.
 use Rattle.std.specs.Prelude.{◌≡◌, ℕ, Bool, true, false, List, [], ◌∷◌, length, get_or, slice_set, map, Option}
+use Rattle.std.specs.Prelude.{Some, None, option_map, ◌==◌, ◌&&◌}
 use Rattle.std.specs.Prelude.{Result, Ok}
 use Rattle.std.specs.Prelude.{Err, if◌then◌else◌}
 use Rattle.std.specs.List.{list_any}
@@ -79,6 +80,24 @@ usual_layout cfa_offset = record { cfa_register = 2; cfa_offset = cfa_offset; re
 -- x1 alone is not kept, and saved
 abbrev pub return_address_saved : ℕ → List RegisterRule
 return_address_saved offset = record { register = 1; rule = rules.Saved offset } ∷ []
+
+-- the layout is the usual one
+abbrev pub is_usual : FrameLayout → Bool
+is_usual layout = layout.cfa_register == 2 && layout.return_register == 1
+
+-- the offset at which the return address is saved, where it is the only one that is
+abbrev pub return_offset : List SavedRegister → Option ℕ
+return_offset [] = None
+return_offset (only ∷ []) = if only.register == 1 then Some only.offset else None
+return_offset (first ∷ second ∷ others) = None
+
+-- the CFA's offset and the return address's, where this alone is saved in the usual layout
+abbrev pub return_saved : UnwindRule → Option (ℕ × ℕ)
+return_saved (unwind_rules.Ends end) = None
+return_saved (unwind_rules.ReturnSaved cfa_offset offset) = None
+return_saved (unwind_rules.Saved layout saved) =
+    if is_usual layout then option_map (λ offset. (layout.cfa_offset, offset)) (return_offset saved) else None
+return_saved (unwind_rules.Mixed layout few) = None
 
 -- CFA = register + offset
 abbrev pub cfa_by : List ℕ → FrameLayout → ℕ
