@@ -1,3 +1,4 @@
+mod Gathered
 pub mod RunColumns
 pub mod Addresses
 pub mod Collecting

@@ -1,11 +1,13 @@
 //! The lines and the scopes of a program, which are looked for together at the addresses of a trace.
-ghost use Rattle.std.specs.Prelude.{◌≡◌, ◌<◌, IfOk, length};
+ghost use Rattle.std.specs.Prelude.{◌≡◌, ◌<◌, IfOk, OnOk, length};
+ghost use Rattle.trace_lines.specs.Traces.{hart_in};
+ghost use Rattle.program_run.specs.private.TracedAddresses.{gathered_hart, gathered_of};
 
 use dwarf_inline::Structure;
 use dwarf_line::LineTable;
 use elf_image::Image;
 use prof_bytes::Memory;
-use scope_expand::PathAddresses;
+use scope_expand::{PathAddresses, full_addresses_stay};
 use scope_find::{Finder, most_gathered};
 use std::alloc::Global;
 use trace_lines::Trace;
@@ -13,18 +15,21 @@ use trace_lines::Trace;
 /// Adds the addresses of a hart's distinct raw paths, while there is room.
 fn add_hart(addresses: &mut PathAddresses, trace: &Trace, hart: u32) -> Result<(), Memory>
     requires { hart < length trace.now.harts }
+    ensures { OnOk result (addresses.new ≡ gathered_hart addresses.old (hart_in trace.now.harts hart)) }
 {
+    full_addresses_stay();
     for place in 0..trace.distinct_paths(hart) {
-        if addresses.is_over() {
-            return Ok(());
+        if !addresses.is_over() {
+            addresses.add(trace.distinct_path(hart, place))?;
         }
-        addresses.add(trace.distinct_path(hart, place))?;
     }
     Ok(())
 }
 
 /// The addresses of the frames of distinct raw paths, up to `most` frames.
-fn traced_addresses(alloc: Global, trace: &Trace, most: u64) -> Result<PathAddresses, Memory> {
+fn traced_addresses(alloc: Global, trace: &Trace, most: u64) -> Result<PathAddresses, Memory>
+    ensures { IfOk result (λ addresses. addresses ≡ gathered_of most trace.now.harts) }
+{
     let mut addresses = PathAddresses::up_to(alloc, most);
     for hart in 0..trace.harts() {
         add_hart(&mut addresses, trace, hart)?;

@@ -1,3 +1,4 @@
+mod Gathered
 pub mod FewRuns
 pub mod FewProfiles
 pub mod Contents

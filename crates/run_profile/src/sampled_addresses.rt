@@ -1,11 +1,13 @@
 //! The lines and the scopes of a program, which are looked for together at the addresses of counted samples.
-ghost use Rattle.std.specs.Prelude.{◌≡◌, ◌<◌, IfOk, length};
+ghost use Rattle.std.specs.Prelude.{◌≡◌, ◌<◌, IfOk, OnOk, length};
+ghost use Rattle.thread_cct.specs.Adding.{of_column};
+ghost use Rattle.run_profile.specs.private.SampledAddresses.{gathered_column, gathered_of};
 
 use dwarf_inline::Structure;
 use dwarf_line::LineTable;
 use elf_image::Image;
 use prof_bytes::Memory;
-use scope_expand::PathAddresses;
+use scope_expand::{PathAddresses, full_addresses_stay};
 use scope_find::{Finder, most_gathered};
 use std::alloc::Global;
 use thread_cct::Ccts;
@@ -13,19 +15,22 @@ use thread_cct::Ccts;
 /// Adds the addresses of a column's distinct raw paths, while there is room.
 fn add_column(addresses: &mut PathAddresses, ccts: &Ccts, column: u32) -> Result<(), Memory>
     requires { column < length ccts.now }
+    ensures { OnOk result (addresses.new ≡ gathered_column addresses.old (of_column ccts.now column)) }
 {
+    full_addresses_stay();
     for index in 0..ccts.len(column) {
-        if addresses.is_over() {
-            return Ok(());
+        if !addresses.is_over() {
+            let counted = ccts.path(column, index)?;
+            addresses.add(&counted.path)?;
         }
-        let counted = ccts.path(column, index)?;
-        addresses.add(&counted.path)?;
     }
     Ok(())
 }
 
 /// The addresses of the frames of distinct raw paths, up to `most` frames.
-fn sampled_addresses(alloc: Global, ccts: &Ccts, most: u64) -> Result<PathAddresses, Memory> {
+fn sampled_addresses(alloc: Global, ccts: &Ccts, most: u64) -> Result<PathAddresses, Memory>
+    ensures { IfOk result (λ addresses. addresses ≡ gathered_of most ccts.now) }
+{
     let mut addresses = PathAddresses::up_to(alloc, most);
     for column in 0..ccts.columns() {
         add_column(&mut addresses, ccts, column)?;

@@ -1,5 +1,6 @@
 -- The addresses that are gathered of raw paths.
-use Rattle.std.specs.Prelude.{ℕ, ◌+◌, ◌*◌, ◌-◌, ◌^◌, ◌||◌, nat_lt, min, Bool, List, ◌++◌, length, map, true, if◌then◌else◌}
+use Rattle.std.specs.Prelude.{ℕ, ◌+◌, ◌*◌, ◌-◌, ◌^◌, ◌||◌, nat_lt, min, Bool, List, [], ◌++◌, length, map, true, false}
+use Rattle.std.specs.Prelude.{if◌then◌else◌}
 use Rattle.std.specs.Ordering.{nat_cmp}
 use Rattle.scope_types.specs.Raw.{Raw}
 use Rattle.tree_types.specs.Ascending.{ascending}
@@ -19,6 +20,10 @@ least_dropped = 65536
 -- the greatest number of addresses
 abbrev pub most_addresses : ℕ
 most_addresses = 2 ^ 64 - 1
+
+-- no addresses, and room for those of so many frames
+abbrev pub none_gathered : ℕ → Gathered
+none_gathered frames = record { addresses = []; room = frames; is_over = false; most = least_dropped }
 
 -- twice as many addresses, and as many as are added at least
 abbrev pub most_after : ℕ → ℕ

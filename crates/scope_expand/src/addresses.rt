@@ -1,6 +1,6 @@
 //! The addresses at which the scopes of raw paths are found.
-ghost use Rattle.std.specs.Prelude.{◌≡◌, ◌++◌, [], false, map, OnOk};
-ghost use Rattle.scope_expand.specs.Gathered.{gathered_with, least_dropped};
+ghost use Rattle.std.specs.Prelude.{◌≡◌, ◌++◌, map, OnOk};
+ghost use Rattle.scope_expand.specs.Gathered.{gathered_with, none_gathered};
 
 use prof_bytes::Memory;
 use scope_types::{Frame, RawPath};
@@ -50,7 +50,7 @@ fn put_addresses(addresses: &mut Vec<u32>, frames: &[Frame]) -> Result<(), Memor
 impl PathAddresses {
     /// No addresses, and room for those of so many frames. Takes no memory.
     pub fn up_to(alloc: Global, frames: u64) -> PathAddresses
-        ensures { result ≡ record { addresses = []; room = frames; is_over = false; most = least_dropped } }
+        ensures { result ≡ none_gathered frames }
     {
         PathAddresses {
             addresses: Vec::new(alloc),

@@ -14,5 +14,5 @@ mod names;
 
 pub use addresses::PathAddresses;
 pub use expander::Expander;
-pub use laws::call_paths_have_roots;
+pub use laws::{call_paths_have_roots, full_addresses_stay};
 pub use memo::Memo;
