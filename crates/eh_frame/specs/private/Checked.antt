@@ -9,7 +9,7 @@ use Rattle.cfi_table.specs.declared.extent.Extent.{Extent}
 use Rattle.cfi_table.specs.declared.instruction.AlignmentFactors.{AlignmentFactors}
 use Rattle.cfi_table.specs.declared.instruction.CallFrameInstruction.{CallFrameInstruction}
 use Rattle.cfi_table.specs.Rules.{FrameState}
-use Rattle.cfi_table.specs.private.Checking.{CfaForms, execute_forms, forms_of}
+use Rattle.cfi_table.specs.private.Checking.{CfaForms, execute_forms, forms_of, no_forms}
 use Rattle.cfi_table.specs.private.KnownCies.{forms_seen}
 use Rattle.cfi_table.specs.private.Placed.{IsWithin}
 use Rattle.eh_frame.specs.declared.address.AddressEncoding.{AddressEncoding}
@@ -48,9 +48,9 @@ known_eh section e = record { offset = e.offset; cie = eh_cie_of section e }
 abbrev pub seen_eh_cie : KnownEhCie → KnownEh
 seen_eh_cie c = record { offset = c.offset; cie = Ok c.cie }
 
--- the forms are those after the CIE's instructions, which have no fault
+-- the forms are those after the CIE's instructions, which have no fault; no form where it is passed over
 abbrev pub AreInitialForms : List ℕ → ℕ → Option EhCie → InitialCfaForms → Type 0
-AreInitialForms section address None forms = Unit {0}
+AreInitialForms section address None forms = forms_seen forms ≡ no_forms
 AreInitialForms section address (Some cie) forms = (initial : List CallFrameInstruction × FrameState)
     × (cie_instructions section address cie ≡ Ok initial) × (forms_seen forms ≡ forms_of initial.1)
 
