@@ -1,6 +1,8 @@
 //! The raw paths of one hart, each once, and the place of each sample's path among them.
 ghost use Rattle.std.specs.Prelude.{◌≡◌, ◌<◌, ◌≤◌, length, slice_get, Some, true, false, IfOk, OnOk, OnErr, All};
 ghost use Rattle.std.specs.Prelude.{MatchOption};
+ghost use Rattle.std.specs.Option.{option_map_or};
+ghost use Rattle.scope_types.specs.Raw.{same_raw};
 ghost use Rattle.scope_types.specs.Limits.{most_samples};
 ghost use Rattle.trace_lines.specs.Traces.{distinct_paths, has_raw, idle_hart, with_retired, with_sample};
 ghost use Rattle.trace_lines.specs.Spelling.{place_among};
@@ -66,7 +68,8 @@ fn put_new(
 #[inline(always)]
 #[tactic(auto, using(crate::proofs::Kept::place_steps))]
 fn is_at(paths: &IndexSet<RawPath, HashKey>, place: usize, raw: &RawPath) -> bool
-    ensures { result ≡ true → slice_get paths.now.keys place ≡ Some raw.now }
+    ensures exact { result ≡ option_map_or (same_raw raw.now) (slice_get paths.now.keys place) false }
+    ensures there { result ≡ true → slice_get paths.now.keys place ≡ Some raw.now }
 {
     match paths.get_index(place) {
         Some(path) => is_same_raw(raw, path),
