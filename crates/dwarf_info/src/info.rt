@@ -132,6 +132,7 @@ impl<'a> Info<'a> {
 
     /// The entry of a subprogram or an inlined subroutine. Whether it is of the unit with index `near` is looked at before
     /// its unit is searched for; the answer is the same with each number.
+    #[inline(always)]
     pub fn entry_of(&self, item: &SubroutineEntry, near: usize) -> Entry<'_, 'a>
         requires { option_map (λ e. e.offset) (slice_get self.now.entries item.now.index) ≡ Some item.now.offset }
         ensures { result ≡ entry_with self.now item.now.index }

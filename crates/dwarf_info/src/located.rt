@@ -147,6 +147,7 @@ impl<'i, 'a> Entry<'i, 'a> {
     /// The entry that it refers to: its abstract origin (DWARF 5, section 3.3.8.2), or else its specification (section
     /// 2.13.2).
     #[tactic(auto, using(crate::proofs::LocatedEntries::linked_there))]
+    #[inline(always)]
     pub fn link(&self) -> Option<Entry<'i, 'a>>
         ensures { result ≡ option_map (entry_with self.now.info) (link_of self.now.info self.now.index) }
     {
