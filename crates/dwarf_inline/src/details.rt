@@ -1,16 +1,15 @@
 //! The ranges of the items, and what they add to an item.
-ghost use Rattle.std.specs.Prelude.{◌≡◌, ◌+◌, ◌-◌, ◌<◌, ◌≤◌, ◌^◌, ◌++◌, ℕ, Some, None, true, length, map, slice_get};
+ghost use Rattle.std.specs.Prelude.{◌≡◌, ◌+◌, ◌-◌, ◌<◌, ◌≤◌, ◌^◌, ◌++◌, ℕ, Some, None, true, length, slice_get};
 ghost use Rattle.std.specs.Prelude.{IfOk, OnOk, option_and_then, option_map, sum_by, ◌==◌, ◌∷◌, [], if◌then◌else◌, List};
-ghost use Rattle.std.specs.List.{flat_map};
-ghost use Rattle.dwarf_info.specs.Subroutines.{SubroutineEntry, item_entries, subroutine_entry};
+ghost use Rattle.dwarf_info.specs.Subroutines.{SubroutineEntry};
 ghost use Rattle.dwarf_inline.specs.Structure.{counted_ranges, unit_line_table, call_row, call_at};
 ghost use Rattle.elf_image.specs.Image.{ProgramImage};
-ghost use Rattle.dwarf_info.specs.Queries.{unit_entry};
+ghost use Rattle.dwarf_info.specs.Queries.{entry_with, unit_entry};
 ghost use Rattle.dwarf_info.specs.Ranges.{attribute_ranges, place_ranges};
 ghost use Rattle.dwarf_inline.specs.declared.details.CallLine.TheVariants.{Nowhere};
-ghost use Rattle.dwarf_inline.specs.private.Details.{ArePlaced, IsPlaced, call_line, detail_of, line_id};
+ghost use Rattle.dwarf_inline.specs.private.Details.{IsPlaced, call_line, detail_of, line_id};
 ghost use Rattle.dwarf_inline.specs.private.Found.{AreKnown, HasFound, IsFound, IsAdded};
-ghost use Rattle.dwarf_inline.specs.private.Found.{all_ranges, first_start, store_of};
+ghost use Rattle.dwarf_inline.specs.private.Found.{first_start, store_of};
 
 use crate::found_ranges::{
     FoundRanges, KnownList, KnownLists, RangeStore, known_list, note_list, store_counted,
@@ -65,6 +64,28 @@ pub(crate) struct RangeLists {
     pub(crate) store: RangeStore,
     /// The number of the ranges of all.
     pub(crate) total: u64,
+}
+
+impl RangeLists {
+    /// Those of no item.
+    pub(crate) fn new(alloc: Global) -> Result<RangeLists, Memory>
+        ensures places { IfOk result (λ lists. lists.places.items ≡ []) }
+        ensures details { IfOk result (λ lists. lists.details ≡ []) }
+        ensures total { IfOk result (λ lists. lists.total ≡ 0) }
+        ensures sources { IfOk result (λ lists. length lists.store.sources.items ≡ 0) }
+        ensures known { IfOk result (λ lists. length lists.store.known.lists.items ≡ 0) }
+    {
+        Ok(RangeLists {
+            places: Vec::new(alloc),
+            details: Details::new(alloc),
+            store: RangeStore {
+                ranges: Vec::new(alloc),
+                sources: Vec::new(alloc),
+                known: KnownLists::new(alloc)?,
+            },
+            total: 0,
+        })
+    }
 }
 
 /// Reads the ranges of an entry that count, keeps them, and notes their list, which is at `place`.
@@ -249,18 +270,16 @@ fn detail_with(
     }
 }
 
-/// Appends the detail of an item, and its ranges that count, of which at most `most` are kept; the answer is the index of
-/// its unit, before which the unit with index `near` is tried.
-fn add_item(
+/// Appends the detail of an item, which has this entry, and its ranges that count, of which at most `most` are kept.
+pub(crate) fn add_item(
     lists: &mut RangeLists,
     alloc: Global,
     sources: Sources<'_, '_, '_, '_>,
     item: &SubroutineEntry,
-    near: usize,
+    entry: &Entry<'_, '_>,
     most: usize,
-) -> Result<usize, Memory>
-    requires entry { option_map (λ e. e.offset) (slice_get sources.info.now.entries item.now.index)
-        ≡ Some item.now.offset }
+) -> Result<(), Memory>
+    requires entry { entry.now ≡ entry_with sources.info.now item.now.index }
     requires few { length lists.old.details < 2 ^ 31 }
     requires places { length lists.old.places.items < 2 ^ 31 }
     requires total { lists.old.total < 2 ^ 63 }
@@ -271,47 +290,10 @@ fn add_item(
         (detail_of sources.entry.info.now sources.entry.lines.now sources.entry.image.now at
         lists.old.total item.now) lists.new.places.items lists.new.details) }
 {
-    let entry = sources.info.entry_of(item, near);
-    let found = find_ranges(&mut lists.store, alloc, &entry, sources.image, most)?;
-    let detail = detail_with(sources.lines, &entry, item.is_inlined(), lists.total, found);
+    let found = find_ranges(&mut lists.store, alloc, entry, sources.image, most)?;
+    let detail = detail_with(sources.lines, entry, item.is_inlined(), lists.total, found);
     let place = add_detail(&mut lists.details, detail)?;
     lists.places.push(place)?;
     lists.total += u64::from(found.count);
-    Ok(entry.unit())
-}
-
-/// The ranges of all items that count, of which at most `most` are kept, and the details of the items.
-pub(crate) fn read_lists(
-    alloc: Global,
-    sources: Sources<'_, '_, '_, '_>,
-    items: &[SubroutineEntry],
-    most: usize,
-) -> Result<RangeLists, Memory>
-    requires few { length sources.info.now.entries < 2 ^ 31 }
-    requires items { items.now ≡ map subroutine_entry (item_entries sources.info.now) }
-    ensures places { IfOk result (λ lists. ArePlaced sources.entry.info.now sources.entry.lines.now
-        sources.entry.image.now (length items.now) lists.places.items lists.details) }
-    ensures ranges { IfOk result (λ lists. all_ranges (store_of sources.entry.info.now.sections
-        sources.entry.image.now.segments lists.store) lists.details
-        ≡ flat_map (λ e. counted_ranges sources.entry.info.now sources.entry.image.now e.0)
-        (item_entries sources.entry.info.now)) }
-    ensures found { IfOk result (λ lists. IsFound sources.entry.info.now.sections
-        sources.entry.image.now.segments lists) }
-    ensures short { IfOk result (λ lists. lists.total < 2 ^ 63) }
-{
-    let mut lists = RangeLists {
-        places: Vec::new(alloc),
-        details: Details::new(alloc),
-        store: RangeStore {
-            ranges: Vec::new(alloc),
-            sources: Vec::new(alloc),
-            known: KnownLists::new(alloc)?,
-        },
-        total: 0,
-    };
-    let mut near = 0;
-    for item in items {
-        near = add_item(&mut lists, alloc, sources, item, near, most)?;
-    }
-    Ok(lists)
+    Ok(())
 }

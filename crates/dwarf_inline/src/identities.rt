@@ -66,6 +66,7 @@ fn offset_of(entry: &Entry<'_, '_>) -> u32
 }
 
 /// Appends the identity of an item whose entry is at the offset `own`, with its name.
+#[inline(always)]
 pub(crate) fn add_identity<'i, 'a>(
     identities: &mut Identities<'a>,
     long: &mut LongEntries<'i, 'a>,

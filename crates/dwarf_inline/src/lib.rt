@@ -6,6 +6,7 @@
 //! `elf_image`, `scope_types` and `prof_bytes`.
 #![tactic(auto)]
 
+mod all_items;
 mod details;
 mod ends;
 mod fault;

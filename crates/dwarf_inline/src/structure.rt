@@ -8,13 +8,13 @@ ghost use Rattle.dwarf_inline.specs.Sources.{ranges_in};
 ghost use Rattle.dwarf_inline.specs.private.Found.{ranges_there};
 ghost use Rattle.dwarf_inline.specs.Structure.{IsWholeStructure, proc_name, structure_of};
 
-use crate::details::{Sources, line_id, read_lists};
+use crate::all_items::read_items;
+use crate::details::{Sources, line_id};
 use crate::ends::{afters_of, ends_of};
 use crate::fault::StructureFault;
 use crate::found_ranges::FIRST_SOURCE;
 use crate::identities::{ProcName, name_in, sort_names};
 use crate::item_ranges::{ItemRanges, RangesPlace, holds_there, ranges_there};
-use crate::levels::identities_of;
 use crate::short_details::Details;
 use crate::subroutine::Subroutine;
 use dwarf_info::{DebugParts, Info, RangeSource, SubroutineEntry};
@@ -183,13 +183,14 @@ pub fn read_structure<'a>(
     let entries = outline.subroutines;
     let ends = ends_of(alloc, outline.depths)?;
     let afters = afters_of(alloc, info, entries.as_slice(), ends.as_slice())?;
-    let mut identities = identities_of(alloc, info, entries.as_slice(), ends)?;
-    sort_names(&mut identities.names);
     let sources = Sources { info, lines, image };
     let sections = info.sections();
     let bytes = sections.info.len().saturating_add(sections.rnglists.len());
     let most = bytes.saturating_add(MOST_FREE_RANGES);
-    let lists = read_lists(alloc, sources, entries.as_slice(), most)?;
+    let items = read_items(alloc, sources, entries.as_slice(), ends.as_slice(), most)?;
+    let mut identities = items.identities;
+    sort_names(&mut identities.names);
+    let lists = items.lists;
     let segments = Segments::of(alloc, image)?;
     Ok(Structure {
         entries,
