@@ -4,3 +4,4 @@ pub mod Steps
 pub mod Products
 pub mod Profiling
 pub mod LiveRuns
+pub mod CodeAddresses
